@@ -1,0 +1,9 @@
+//! Fixed-point numbers: whole numbers of millionths within limits, and the vectors, rotations and
+//! transforms made of them.
+#![tactic(auto)]
+
+mod fixed;
+mod transform;
+
+pub use fixed::{Fx, LIM, U};
+pub use transform::{Quat, Raw, V3, Xform};

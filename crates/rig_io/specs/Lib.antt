@@ -1,0 +1,5 @@
+pub mod Faults
+pub mod Bytes
+pub mod Got
+pub mod Put
+pub mod Memory

@@ -1,0 +1,18 @@
+// Want of memory, the one answer whose cause no contract states.
+use std::alloc::{AllocError, AllocFailed};
+
+/// Memory was refused. Any call that allocates may answer this, and no contract says when.
+#[derive(Clone, Copy, Debug, PartialEq, Eq)]
+pub struct NoMemory {}
+
+impl From<AllocError> for NoMemory {
+    fn from(_: AllocError) -> Self {
+        NoMemory {}
+    }
+}
+
+impl<T: Drop> From<AllocFailed<T>> for NoMemory {
+    fn from(_: AllocFailed<T>) -> Self {
+        NoMemory {}
+    }
+}

@@ -1,0 +1,16 @@
+pub mod Sinks
+pub mod Ends
+pub mod LinesAfter
+pub mod AfterSteps
+pub mod Held
+pub mod Passes
+pub mod Named
+pub mod Vectors
+pub mod EachItem
+pub mod Texts
+pub mod Single
+pub mod Once
+pub mod Rising
+pub mod Few
+pub mod MadeScene
+pub mod MadeInput

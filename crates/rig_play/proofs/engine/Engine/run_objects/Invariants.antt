@@ -1,0 +1,17 @@
+use Rattle.std.proofs.Common.{◌≡◌, ◌+◌, ◌*◌, ◌≤◌, ◌++◌, length, take, drop, map, false}
+use Rattle.rig_play.specs.Follows.{IsFor, objects_ran, all_stand}
+use Rattle.rig_play.proofs.engine.Engine.run_objects.Given as goal
+
+abbrev pub invariant-loop-place : goal.invariant-loop-place
+invariant-loop-place g l = record {
+  sized : IsFor (length l.scene.objects) l.self;
+  originals : l.self.originals ≡ l.initial.self.originals;
+  last : l.self.last ≡ l.initial.self.last;
+  few : l.ran ≤ 3 * l.place;
+  ran : l.ran + objects_ran l.pass.first l.pass.moved (drop l.place l.scene.objects) (drop l.place l.self.marks.items)
+      ≡ objects_ran l.pass.first l.pass.moved l.scene.objects l.initial.self.marks.items;
+  kept : take l.place l.self.kept.items ++ all_stand l.scene l.pass.first l.pass.moved l.pass.frame (drop l.place l.scene.objects) (drop l.place l.self.originals.items) (drop l.place l.self.marks.items) (drop l.place l.self.kept.items)
+      ≡ all_stand l.scene l.pass.first l.pass.moved l.pass.frame l.scene.objects l.initial.self.originals.items l.initial.self.marks.items l.initial.self.kept.items;
+  marks : take l.place l.self.marks.items ++ map (λ _. false) (drop l.place l.self.marks.items) ≡ map (λ _. false) l.initial.self.marks.items;
+  ticks : g.Y.Tally.count l.tally ≡ g.Y.Tally.count l.initial.tally + l.ran;
+}

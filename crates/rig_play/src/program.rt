@@ -1,0 +1,193 @@
+// A whole run: words, reading, playing and writing, each way to end with its status.
+ghost use Rattle.std.specs.Prelude.{◌≡◌, ◌≢◌, ◌+◌, ◌≤◌, ◌⊎◌, ℕ, Some, None, IsTrue, IfOk, OnOk, OnErr, length, map, sum_by, true, false};
+ghost use Rattle.std.specs.List.{flat_map};
+ghost use Rattle.rig_io.specs.Faults.{rose};
+ghost use Rattle.rig_io.specs.Bytes.{GaveMoreThan, Appended, AppendedFront};
+ghost use Rattle.rig_play.specs.Played.{InputRecord};
+ghost use Rattle.rig_play.specs.Form.{input_of};
+ghost use Rattle.rig_play.specs.Words.{is_eval};
+ghost use Rattle.rig_play.specs.Run.{AreTallies, Plays, ReadNoInput, WroteFront, EndsAs, usage_line, unbuilt_line, text_of, text_for, ran_in, most_bytes};
+
+use crate::form::{Unread, input_of};
+use crate::play::play;
+use crate::status::Status;
+use crate::words::is_eval;
+use rig_io::{ReadStop, Sink, Source, Tally, WriteFault, read_all, write_all};
+use std::alloc::Global;
+
+/// The largest input, in bytes.
+const MOST_BYTES: usize = 16_777_216;
+
+const USAGE_LINE: &[u8] =
+    b"usage: rigplay <check|eval|play|rehearse> [--workers N] [--trace] [--size N]\n";
+
+const UNBUILT_LINE: &[u8] = b"fault Unbuilt\n";
+
+// Writes texts one after another.
+fn write_each<K: Sink>(sink: &mut K, texts: &[Vec<u8>]) -> Result<(), WriteFault>
+    ensures ok { OnOk result (Appended (K.written sink.old) (K.written sink.new) (flat_map (λ t. t.items) texts.now)) }
+    ensures err { OnErr result (AppendedFront (K.written sink.old) (K.written sink.new) (flat_map (λ t. t.items) texts.now)) }
+    ensures cause { OnErr result (IsTrue (rose (K.faults sink.old) (K.faults sink.new))) }
+    ensures faults { K.faults sink.old ≤ K.faults sink.new }
+{
+    for text in texts {
+        match write_all(sink, text) {
+            Ok(()) => {}
+            Err(fault) => return Err(fault),
+        }
+    }
+    Ok(())
+}
+
+fn write_usage<K: Sink>(sink: &mut K) -> Result<(), WriteFault>
+    ensures ok { OnOk result (Appended (K.written sink.old) (K.written sink.new) usage_line) }
+    ensures err { OnErr result (AppendedFront (K.written sink.old) (K.written sink.new) usage_line) }
+    ensures cause { OnErr result (IsTrue (rose (K.faults sink.old) (K.faults sink.new))) }
+{
+    write_all(sink, USAGE_LINE)
+}
+
+fn write_unbuilt<K: Sink>(sink: &mut K) -> Result<(), WriteFault>
+    ensures ok { OnOk result (Appended (K.written sink.old) (K.written sink.new) unbuilt_line) }
+    ensures err { OnErr result (AppendedFront (K.written sink.old) (K.written sink.new) unbuilt_line) }
+    ensures cause { OnErr result (IsTrue (rose (K.faults sink.old) (K.faults sink.new))) }
+{
+    write_all(sink, UNBUILT_LINE)
+}
+
+// Plays what the bytes stand for, and writes its text.
+fn answer<K: Sink, Y: Tally + Send>(
+    alloc: Global,
+    bytes: &[u8],
+    sink: &mut K,
+    tallies: &mut [Y],
+) -> Status
+    requires { AreTallies Y.count tallies.old }
+    ensures ok { result ≡ Status.Ok → (input : InputRecord) × (input_of bytes.now ≡ Some input)
+        × Appended (K.written sink.old) (K.written sink.new) (text_of input)
+        × (sum_by Y.count tallies.new ≡ sum_by Y.count tallies.old + ran_in input) }
+    ensures no_memory { result ≡ Status.NoMemory → sink.new ≡ sink.old }
+    ensures write_fault { result ≡ Status.WriteFault → IsTrue (rose (K.faults sink.old) (K.faults sink.new))
+        × AppendedFront (K.written sink.old) (K.written sink.new) (text_for (input_of bytes.now)) }
+    ensures unbuilt { result ≡ Status.Unbuilt → (input_of bytes.now ≡ None)
+        × Appended (K.written sink.old) (K.written sink.new) unbuilt_line }
+    ensures others { (result ≢ Status.Usage) × (result ≢ Status.ReadFault) }
+{
+    let input = match input_of(alloc, bytes) {
+        Ok(input) => input,
+        Err(Unread::NoMemory) => return Status::NoMemory,
+        Err(Unread::OtherForm) => {
+            return match write_unbuilt(sink) {
+                Ok(()) => Status::Unbuilt,
+                Err(_) => Status::WriteFault,
+            };
+        }
+    };
+    match play(alloc, &input, &mut tallies[0]) {
+        Ok(texts) => match write_each(sink, &texts) {
+            Ok(()) => Status::Ok,
+            Err(_) => Status::WriteFault,
+        },
+        Err(_) => Status::NoMemory,
+    }
+}
+
+/// Runs a command that always returns: `eval`, which plays the one track of the input.
+///
+/// `words` has the program's name first. Of the tallies the first one ticks once for each operation that runs.
+/// Where the words aren't a command line nothing is read. Whatever fails, want of memory leaves the sink alone.
+pub fn run_plain<S: Source, K: Sink, Y: Tally + Send>(
+    alloc: Global,
+    words: &[String],
+    source: &mut S,
+    sink: &mut K,
+    tallies: &mut [Y],
+) -> Status
+    requires { AreTallies Y.count tallies.old }
+
+    // Ok says that the input was read to its end and played: its text was written, its operations counted.
+    ensures ok { result ≡ Status.Ok → Plays (S.left source.old) (S.left source.new)
+        (K.written sink.old) (K.written sink.new) (sum_by Y.count tallies.old) (sum_by Y.count tallies.new) }
+    ensures ok_words { result ≡ Status.Ok → is_eval words.now ≡ true }
+
+    // Usage comes exactly where the words aren't the two that are known, but for a failed write of its line.
+    ensures usage { result ≡ Status.Usage → (is_eval words.now ≡ false)
+        × Appended (K.written sink.old) (K.written sink.new) usage_line }
+    ensures other_words { is_eval words.now ≡ false →
+        ((result ≡ Status.Usage) ⊎ (result ≡ Status.WriteFault)) × (source.new ≡ source.old) }
+
+    // Unbuilt comes where too many bytes came, or bytes that stand for no input.
+    ensures unbuilt { result ≡ Status.Unbuilt → (is_eval words.now ≡ true)
+        × Appended (K.written sink.old) (K.written sink.new) unbuilt_line
+        × (GaveMoreThan (S.left source.old) (S.left source.new) most_bytes ⊎ ReadNoInput (S.left source.old) (S.left source.new)) }
+
+    // The faults of the outside have their causes.
+    ensures read_fault { result ≡ Status.ReadFault → (is_eval words.now ≡ true)
+        × IsTrue (rose (S.faults source.old) (S.faults source.new)) × (sink.new ≡ sink.old) }
+    ensures write_fault { result ≡ Status.WriteFault → IsTrue (rose (K.faults sink.old) (K.faults sink.new))
+        × WroteFront words.now (S.left source.old) (S.left source.new) (K.written sink.old) (K.written sink.new) }
+    ensures no_memory { result ≡ Status.NoMemory → sink.new ≡ sink.old }
+
+    // Where nothing fails, the bytes decide.
+    ensures complete { is_eval words.now ≡ true → rose (S.faults source.old) (S.faults source.new) ≡ false →
+        rose (K.faults sink.old) (K.faults sink.new) ≡ false → EndsAs (S.left source.old) result }
+{
+    if !is_eval(words) {
+        return match write_usage(sink) {
+            Ok(()) => Status::Usage,
+            Err(_) => Status::WriteFault,
+        };
+    }
+    match read_all(alloc, source, MOST_BYTES) {
+        Ok(bytes) => answer(alloc, &bytes, sink, tallies),
+        Err(ReadStop::NoMemory) => Status::NoMemory,
+        Err(ReadStop::Fault) => Status::ReadFault,
+        Err(ReadStop::TooLong) => match write_unbuilt(sink) {
+            Ok(()) => Status::Unbuilt,
+            Err(_) => Status::WriteFault,
+        },
+    }
+}
+
+/// Runs a command. At present each one always returns, and is run as [`run_plain`] runs it.
+///
+/// `words` has the program's name first. Of the tallies the first one ticks once for each operation that runs.
+/// Where the words aren't a command line nothing is read. Whatever fails, want of memory leaves the sink alone.
+pub fn run<S: Source, K: Sink, Y: Tally + Send>(
+    alloc: Global,
+    words: &[String],
+    source: &mut S,
+    sink: &mut K,
+    tallies: &mut [Y],
+) -> Status
+    requires { AreTallies Y.count tallies.old }
+
+    // Ok says that the input was read to its end and played: its text was written, its operations counted.
+    ensures ok { result ≡ Status.Ok → Plays (S.left source.old) (S.left source.new)
+        (K.written sink.old) (K.written sink.new) (sum_by Y.count tallies.old) (sum_by Y.count tallies.new) }
+    ensures ok_words { result ≡ Status.Ok → is_eval words.now ≡ true }
+
+    // Usage comes exactly where the words aren't the two that are known, but for a failed write of its line.
+    ensures usage { result ≡ Status.Usage → (is_eval words.now ≡ false)
+        × Appended (K.written sink.old) (K.written sink.new) usage_line }
+    ensures other_words { is_eval words.now ≡ false →
+        ((result ≡ Status.Usage) ⊎ (result ≡ Status.WriteFault)) × (source.new ≡ source.old) }
+
+    // Unbuilt comes where too many bytes came, or bytes that stand for no input.
+    ensures unbuilt { result ≡ Status.Unbuilt → (is_eval words.now ≡ true)
+        × Appended (K.written sink.old) (K.written sink.new) unbuilt_line
+        × (GaveMoreThan (S.left source.old) (S.left source.new) most_bytes ⊎ ReadNoInput (S.left source.old) (S.left source.new)) }
+
+    // The faults of the outside have their causes.
+    ensures read_fault { result ≡ Status.ReadFault → (is_eval words.now ≡ true)
+        × IsTrue (rose (S.faults source.old) (S.faults source.new)) × (sink.new ≡ sink.old) }
+    ensures write_fault { result ≡ Status.WriteFault → IsTrue (rose (K.faults sink.old) (K.faults sink.new))
+        × WroteFront words.now (S.left source.old) (S.left source.new) (K.written sink.old) (K.written sink.new) }
+    ensures no_memory { result ≡ Status.NoMemory → sink.new ≡ sink.old }
+
+    // Where nothing fails, the bytes decide.
+    ensures complete { is_eval words.now ≡ true → rose (S.faults source.old) (S.faults source.new) ≡ false →
+        rose (K.faults sink.old) (K.faults sink.new) ≡ false → EndsAs (S.left source.old) result }
+{
+    run_plain(alloc, words, source, sink, tallies)
+}

@@ -1,0 +1,36 @@
+// How a run ends.
+ghost use Rattle.std.specs.Prelude.{◌≡◌};
+ghost use Rattle.rig_play.specs.Status.{code_of};
+
+/// How a run ended.
+#[derive(Clone, Copy, Debug, PartialEq, Eq)]
+pub enum Status {
+    /// The input was read to its end, and all text was written.
+    Ok,
+    /// Memory was refused before the first byte was written.
+    NoMemory,
+    /// The words aren't a command line of the program. The usage line was written.
+    Usage,
+    /// A read failed. Nothing was written.
+    ReadFault,
+    /// A write failed. A front of the text was written.
+    WriteFault,
+    /// The input isn't one that this program can play yet. The fault line was written.
+    Unbuilt,
+}
+
+impl Status {
+    /// The exit status of the process: 0 for [`Status::Ok`], 1 to 4 and 20 for the others in their order.
+    pub fn code(self) -> u8
+        ensures { result ≡ code_of self }
+    {
+        match self {
+            Status::Ok => 0,
+            Status::NoMemory => 1,
+            Status::Usage => 2,
+            Status::ReadFault => 3,
+            Status::WriteFault => 4,
+            Status::Unbuilt => 20,
+        }
+    }
+}
