@@ -3,6 +3,7 @@
 #![tactic(auto)]
 
 mod fixed;
+pub mod laws;
 mod transform;
 
 pub use fixed::{Fx, LIM, U};

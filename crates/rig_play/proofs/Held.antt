@@ -11,7 +11,8 @@ use Rattle.rig_scene.specs.declared.action.Key.{Key}
 use Rattle.rig_scene.specs.Distinct.{are_rising}
 use Rattle.rig_scene.specs.declared.action.Action.{Action}
 use Rattle.rig_scene.specs.declared.object.Object.{Object}
-use Rattle.rig_scene.specs.Scene.{SceneRecord, is_action, is_scene}
+use Rattle.rig_scene.specs.Scene.{SceneRecord}
+use Rattle.rig_scene.specs.WellFormed.{is_action, is_scene}
 use Rattle.rig_play.specs.Scratch.{action_of}
 
 -- an element of a list in which each passes the test passes it

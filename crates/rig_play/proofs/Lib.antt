@@ -12,5 +12,6 @@ pub mod Single
 pub mod Once
 pub mod Rising
 pub mod Few
+pub mod Plain
 pub mod MadeScene
 pub mod MadeInput

@@ -4,7 +4,8 @@ use Rattle.std.specs.Prelude.{codes, is_some}
 use Rattle.serde_json.specs.Data.{Data}
 use Rattle.rig_scene.specs.declared.action.Action.{Action}
 use Rattle.rig_scene.specs.declared.object.Object.{Object}
-use Rattle.rig_scene.specs.Scene.{SceneRecord, is_scene}
+use Rattle.rig_scene.specs.Scene.{SceneRecord}
+use Rattle.rig_scene.specs.WellFormed.{is_scene}
 use Rattle.rig_play.specs.Named.{scene_of}
 use Rattle.rig_play.specs.Members.{◌>>=◌, only_if, has_only, member_in, member_or, whole_in, list_in}
 use Rattle.rig_play.specs.Form.{action_in, object_in, scene_in}

@@ -20,7 +20,8 @@ use Rattle.rig_scene.specs.declared.action.Action.{Action}
 use Rattle.rig_scene.specs.declared.object.Kind.TheVariants.{Empty}
 use Rattle.rig_scene.specs.declared.object.Object.{Object}
 use Rattle.rig_scene.specs.Path.{same_text}
-use Rattle.rig_scene.specs.Scene.{SceneRecord, is_scene}
+use Rattle.rig_scene.specs.Scene.{SceneRecord}
+use Rattle.rig_scene.specs.WellFormed.{is_scene}
 use Rattle.rig_play.specs.declared.script.Step.{Step}
 use Rattle.rig_play.specs.declared.script.Step.TheVariants.{Frame, SetLocation}
 use Rattle.rig_play.specs.Script.{are_steps}
@@ -66,7 +67,7 @@ abbrev pub place_in : List (List ℕ) → Data → Option ℕ
 place_in names d = as_str d >>= λ s. position (same_text s) names
 
 -- An object: `name`, `kind`, which is `empty`, where present `loc`, else 0, and where present `action`, which
--- names one of the actions. It has no rotation, scale 1, and its place as its id.
+-- names one of the actions. It has no parent, no rotation, scale 1, and its place as its id.
 abbrev pub object_in : List (List ℕ) → ℕ → Data → Option Object
 object_in actions place d = only_if (has_only (codes "name" ∷ codes "kind" ∷ codes "loc" ∷ codes "action" ∷ []) d && has_text (codes "kind") (codes "empty") d) (do
   name ← member_in (codes "name") name_in d
@@ -77,16 +78,25 @@ object_in actions place d = only_if (has_only (codes "name" ∷ codes "kind" ∷
     name = name;
     own = record { loc = loc; rot = record { w = unit; x = pos 0; y = pos 0; z = pos 0 }; scale = unit };
     action = action;
+    parent = None;
     kind = Empty;
   }))
 
--- a scene: `version`, which is 1, and where present the lists `actions` and `objects`
+-- A scene: `version`, which is 1, and where present the lists `actions` and `objects`. It has no armatures, pencils
+-- or drivers.
 abbrev pub scene_in : Data → Option SceneRecord
 scene_in d = only_if (has_only (codes "version" ∷ codes "actions" ∷ codes "objects" ∷ []) d) (do
   version ← member_in (codes "version") (whole_in (pos 1) (pos 1)) d
   actions ← member_or [] (codes "actions") (list_in action_in) d
   objects ← member_or [] (codes "objects") (list_in (object_in (map (λ a. a.name) actions))) d
-  let scene : SceneRecord = record { actions = actions; objects = objects; next = length objects }
+  let scene : SceneRecord = record {
+    actions = actions;
+    armatures = [];
+    pencils = [];
+    objects = objects;
+    drivers = [];
+    next = length objects;
+  }
   only_if (is_scene scene) (Some scene))
 
 -- a frame step: just `frame`

@@ -16,4 +16,5 @@ pub mod Follows
 pub mod Names
 pub mod Limited
 pub mod Named
+pub mod Plain
 pub mod Scripted

@@ -4,7 +4,7 @@ ghost use Rattle.std.specs.List.{list_all, list_any};
 ghost use Rattle.std.specs.Option.{option_map_or};
 ghost use Rattle.rig_scene.specs.Distinct.{are_distinct, are_rising};
 ghost use Rattle.rig_scene.specs.Path.{channel_place, axis_place, same_text, same_path};
-ghost use Rattle.rig_scene.specs.Scene.{is_frame, are_keys, is_action, curve_count, key_count};
+ghost use Rattle.rig_scene.specs.WellFormed.{is_frame, are_keys, is_action, curve_count, key_count};
 
 use rig_scene::{Action, Axis, Channel, Curve, Key, Name, Object, Path};
 

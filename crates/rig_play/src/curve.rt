@@ -2,7 +2,7 @@
 ghost use Rattle.std.specs.Prelude.{◌≡◌, ℕ, ◌≤◌, length, filter, take, IsTrue, int_le, Some, None, MatchOption, option_and_then, unwrap_or};
 ghost use Rattle.rig_scene.specs.declared.channel.Path.TheVariants.{Own};
 ghost use Rattle.rig_scene.specs.Path.{same_path};
-ghost use Rattle.rig_scene.specs.Scene.{are_keys, is_action};
+ghost use Rattle.rig_scene.specs.WellFormed.{are_keys, is_action};
 ghost use Rattle.rig_play.specs.Scratch.{curve_value, curve_of, action_of};
 ghost use Rattle.rig_play.specs.Follows.{location_from};
 

@@ -16,7 +16,7 @@ use serde_json::Value;
 use std::alloc::Global;
 
 /// An object: `name`, `kind`, which is `empty`, where present `loc`, else 0, and where present `action`, which
-/// names one of the actions. It has no rotation, scale 1, and its place as its id.
+/// names one of the actions. It has no parent, no rotation, scale 1, and its place as its id.
 fn object_in(alloc: Global, actions: &Names, place: u32, value: &Value) -> Result<Object, Unread>
     ensures { Gives result (object_in actions.now place (view value.now)) }
 {
@@ -31,6 +31,7 @@ fn object_in(alloc: Global, actions: &Names, place: u32, value: &Value) -> Resul
         name,
         own: at_rest(loc),
         action,
+        parent: None,
         kind: Kind::Empty,
     })
 }

@@ -2,10 +2,11 @@
 ghost use Rattle.std.specs.Prelude.{◌≡◌, ◌≤◌, [], pos, IsTrue, Some, codes, is_some, length, map, option_map, option_and_then};
 ghost use Rattle.std.specs.List.{list_all};
 ghost use Rattle.serde_json.specs.View.{view};
-ghost use Rattle.rig_scene.specs.Scene.{is_action, are_actions, are_objects, is_scene};
+ghost use Rattle.rig_scene.specs.WellFormed.{is_action, are_actions, are_objects, is_scene};
 ghost use Rattle.rig_play.specs.Unread.{Gives};
 ghost use Rattle.rig_play.specs.Named.{scene_of, named};
 ghost use Rattle.rig_play.specs.Limited.{at_most};
+ghost use Rattle.rig_play.specs.Plain.{is_plain};
 ghost use Rattle.rig_play.specs.Members.{only_if, member_in, member_or, whole_in, list_in};
 ghost use Rattle.rig_play.specs.Form.{action_in, object_in, scene_in};
 
@@ -23,7 +24,7 @@ use serde_json::Value;
 use std::alloc::Global;
 
 /// A scene, and the names of its objects: `version`, which is 1, and where present the lists `actions` and
-/// `objects`.
+/// `objects`. It has no armatures, pencils or drivers.
 pub(crate) fn scene_in(alloc: Global, value: &Value) -> Result<(Scene, Names), Unread>
     ensures { Gives result (option_map named (scene_in (view value.now))) }
 {
@@ -53,13 +54,17 @@ fn named_scene(
 ) -> Result<(Scene, Names), Unread>
     requires actions { IsTrue (are_actions actions) }
     requires objects { length objects ≤ 1024 }
+    requires plain { IsTrue (list_all is_plain objects) }
     ensures { Gives result (option_map named (only_if (is_scene (scene_of actions objects)) (Some (scene_of actions objects)))) }
 {
     let next = objects.len() as u32;
-    let names = object_names(alloc, actions.len(), next, objects.as_slice())?;
+    let names = object_names(alloc, actions.as_slice(), objects.as_slice())?;
     let scene = Scene {
         actions,
+        armatures: List::new(alloc),
+        pencils: List::new(alloc),
         objects,
+        drivers: List::new(alloc),
         next,
     };
     Ok((scene, names))
@@ -115,19 +120,15 @@ fn few_objects_in(alloc: Global, actions: &Names, value: &Value) -> Result<List<
     items_in(alloc, &ObjectReader { actions }, values.as_slice())
 }
 
-// The names of objects, where they keep the conditions in a scene of so many actions.
-fn object_names(
-    alloc: Global,
-    actions: usize,
-    next: u32,
-    objects: &[Object],
-) -> Result<Names, Unread>
-    requires { length objects.now ≤ 1024 }
-    ensures { Gives result (only_if (are_objects actions next objects.now) (Some (map (λ o. o.name) objects.now))) }
+// The names of objects, where they keep the conditions in the scene of these records.
+fn object_names(alloc: Global, actions: &[Action], objects: &[Object]) -> Result<Names, Unread>
+    requires few { length objects.now ≤ 1024 }
+    requires plain { IsTrue (list_all is_plain objects.now) }
+    ensures { Gives result (only_if (are_objects (scene_of actions.now objects.now)) (Some (map (λ o. o.name) objects.now))) }
 {
     if !are_ids_rising(objects)
-        || !are_ids_below(next, objects)
-        || !have_actions(actions, objects)
+        || !are_ids_below(objects.len() as u32, objects)
+        || !have_actions(actions.len(), objects)
     {
         return Err(Unread::OtherForm);
     }

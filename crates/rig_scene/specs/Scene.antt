@@ -1,48 +1,39 @@
--- A scene as the record of its lists, and the conditions that every scene meets.
-use Rattle.std.specs.Prelude.{ℕ, ℤ, pos, negsuc, ◌&&◌, List, length, map, sum_by, Bool, true, nat_lt, nat_le, int_lt, int_le}
-use Rattle.std.specs.Option.{option_map_or}
-use Rattle.std.specs.List.{list_all}
-use Rattle.rig_scene.specs.declared.action.Key.{Key}
+-- A scene as the record of its lists, and how its records are found.
+use Rattle.std.specs.Prelude.{ℕ, ◌==◌, List, slice_get, Bool, Option, None}
+use Rattle.std.specs.List.{find}
+use Rattle.rig_scene.specs.declared.channel.ObjectId.{ObjectId}
 use Rattle.rig_scene.specs.declared.action.Action.{Action}
+use Rattle.rig_scene.specs.declared.armature.ArmatureData.{ArmatureData}
+use Rattle.rig_scene.specs.declared.pencil.PencilData.{PencilData}
+use Rattle.rig_scene.specs.declared.object.Kind.{Kind}
+use Rattle.rig_scene.specs.declared.object.Kind.TheVariants.{Empty, Armature, Pencil}
 use Rattle.rig_scene.specs.declared.object.Object.{Object}
-use Rattle.rig_scene.specs.Path.{same_text, same_path}
-use Rattle.rig_scene.specs.Distinct.{are_distinct, are_rising}
+use Rattle.rig_scene.specs.declared.driver.Driver.{Driver}
 
 pub record SceneRecord : Type 0 where
   pub actions : List Action
+  pub armatures : List ArmatureData
+  pub pencils : List PencilData
   pub objects : List Object
+  pub drivers : List Driver
   pub next : ℕ
 
--- a frame from -1,000,000 to 1,000,000
-abbrev pub is_frame : ℤ → Bool
-is_frame f = int_le (negsuc 999999) f && int_le f (pos 1000000)
+-- whether two ids are of one object
+abbrev pub same_object : ObjectId → ObjectId → Bool
+same_object a b = a.0 == b.0
 
--- the keys of a curve: frames within their limits that rise
-abbrev pub are_keys : List Key → Bool
-are_keys keys = list_all (λ k. is_frame k.frame) keys && are_rising (λ j k. int_lt j.frame k.frame) keys
+-- the object of an id
+abbrev pub object_of : SceneRecord → ObjectId → Option Object
+object_of scene id = find (λ o. same_object o.id id) scene.objects
 
--- an action has each path once
-abbrev pub is_action : Action → Bool
-is_action a = are_distinct same_path (map (λ c. c.path) a.curves) && list_all (λ c. are_keys c.keys) a.curves
+-- the armature of an object's kind
+abbrev pub armature_of : SceneRecord → Kind → Option ArmatureData
+armature_of scene Empty = None
+armature_of scene (Armature armature pose) = slice_get scene.armatures armature
+armature_of scene (Pencil pencil modifiers) = None
 
-abbrev pub curve_count : List Action → ℕ
-curve_count actions = sum_by (λ a. length a.curves) actions
-
-abbrev pub key_count : List Action → ℕ
-key_count actions = sum_by (λ a. sum_by (λ c. length c.keys) a.curves) actions
-
--- the actions of a scene
-abbrev pub are_actions : List Action → Bool
-are_actions actions =
-    nat_le (length actions) 2048 && nat_le (curve_count actions) 16384 && nat_le (key_count actions) 65536
-    && are_distinct same_text (map (λ a. a.name) actions) && list_all is_action actions
-
--- the objects of a scene of so many actions, with ids below next
-abbrev pub are_objects : ℕ → ℕ → List Object → Bool
-are_objects actions next objects =
-    nat_le (length objects) 1024 && are_distinct same_text (map (λ o. o.name) objects)
-    && are_rising (λ o p. nat_lt o.id.0 p.id.0) objects && list_all (λ o. nat_lt o.id.0 next) objects
-    && list_all (λ o. option_map_or (λ a. nat_lt a actions) o.action true) objects
-
-abbrev pub is_scene : SceneRecord → Bool
-is_scene s = are_actions s.actions && are_objects (length s.actions) s.next s.objects
+-- the pencil of an object's kind
+abbrev pub pencil_of : SceneRecord → Kind → Option PencilData
+pencil_of scene Empty = None
+pencil_of scene (Armature armature pose) = None
+pencil_of scene (Pencil pencil modifiers) = slice_get scene.pencils pencil

@@ -3,6 +3,7 @@ ghost use Rattle.std.specs.Prelude.{◌≡◌, false, IsTrue, IfOk, MatchOption}
 ghost use Rattle.std.specs.List.{list_all};
 ghost use Rattle.rig_scene.specs.Name.{is_name, is_name_byte};
 
+use rig_io::NoMemory;
 use std::alloc::{AllocError, Global};
 use std::marker::Model;
 
@@ -85,6 +86,15 @@ impl Name {
         ensures name { IsTrue (is_name self.now) }
     {
         self.text.as_str()
+    }
+
+    /// An equal name with memory of its own.
+    pub fn copy(&self, alloc: Global) -> Result<Name, NoMemory>
+        ensures { IfOk result (λ copy. copy ≡ self.now) }
+    {
+        Ok(Name {
+            text: String::from_str(alloc, self.text.as_str())?,
+        })
     }
 }
 

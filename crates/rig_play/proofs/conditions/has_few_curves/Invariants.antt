@@ -1,5 +1,5 @@
 use Rattle.std.proofs.Common.{◌≡◌, drop, nat_le}
-use Rattle.rig_scene.specs.Scene.{curve_count}
+use Rattle.rig_scene.specs.WellFormed.{curve_count}
 use Rattle.rig_play.proofs.conditions.has_few_curves.Given as goal
 
 abbrev pub invariant-loop-action : goal.invariant-loop-action

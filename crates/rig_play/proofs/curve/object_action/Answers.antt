@@ -1,5 +1,5 @@
 use Rattle.std.proofs.Common.{◌≡◌, option_map, slice_get, ap, ◌∙◌, subst, true, IsTrue}
-use Rattle.rig_scene.specs.Scene.{is_scene}
+use Rattle.rig_scene.specs.WellFormed.{is_scene}
 use Rattle.rig_play.proofs.Held.{got, got_action}
 use Rattle.rig_play.proofs.curve.object_action.Goals as goal
 

@@ -6,7 +6,7 @@ use Rattle.std.specs.List.{list_all}
 use Rattle.rig_scene.specs.declared.channel.Path.TheVariants.{Own}
 use Rattle.rig_scene.specs.Distinct.{are_distinct}
 use Rattle.rig_scene.specs.Path.{same_path}
-use Rattle.rig_scene.specs.Scene.{are_keys}
+use Rattle.rig_scene.specs.WellFormed.{are_keys}
 use Rattle.rig_play.proofs.Held.{found}
 use Rattle.rig_play.proofs.curve.own_curve.Goals as goal
 

@@ -3,7 +3,7 @@ use Rattle.std.proofs.lemmas.Bool.{and_parts}
 use Rattle.std.proofs.lemmas.List.Sorted.{IsPartitionPoint-from_clause}
 use Rattle.std.specs.List.{list_all}
 use Rattle.rig_scene.specs.Distinct.{are_rising}
-use Rattle.rig_scene.specs.Scene.{is_frame}
+use Rattle.rig_scene.specs.WellFormed.{is_frame}
 use Rattle.rig_play.proofs.Held.{rising-partitioned, filter_front}
 use Rattle.rig_play.proofs.curve.past_keys.Goals as goal
 

@@ -3,14 +3,20 @@ use Rattle.std.specs.Prelude.{codes, option_map}
 use Rattle.std.proofs.lemmas.Option.{cond_some}
 use Rattle.serde_json.specs.View.{view}
 use Rattle.rig_scene.specs.declared.action.Action.{Action}
-use Rattle.rig_scene.specs.Scene.{are_actions}
+use Rattle.rig_scene.specs.WellFormed.{are_actions}
 use Rattle.rig_play.specs.Named.{named}
 use Rattle.rig_play.specs.Members.{member_or, list_in}
 use Rattle.rig_play.specs.Form.{object_in}
 use Rattle.rig_play.specs.Unread.{Gives}
 use Rattle.rig_play.proofs.Few.{limited}
+use Rattle.rig_play.proofs.Plain.{read-plain}
 use Rattle.rig_play.proofs.MadeScene.{scene_in-known}
 use Rattle.rig_play.proofs.scenes.scene_in.Goals as goal
+
+pub named_scene-requires-clause-plain : goal.named_scene-requires-clause-plain
+named_scene-requires-clause-plain c =
+    let read = (limited 1024 (member_or [] (codes "objects") (list_in (object_in c.in_ok-action_names.action_names)) (view c.args.value.now)) c.in_ok-objects.objects c.in_ok-objects.ensures).0 in
+    read-plain c.in_ok-action_names.action_names (view c.args.value.now) c.in_ok-objects.objects read
 
 pub returns : goal.returns
 returns c =
