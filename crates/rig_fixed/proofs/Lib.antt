@@ -1,2 +1,9 @@
+pub mod Bounds
+pub mod Length
+pub mod Values
 pub mod Root
+pub mod Turning
 pub mod Rounding
+pub mod Quotient
+pub mod Shortcuts
+pub mod Placed

@@ -2,6 +2,7 @@
 use Rattle.std.proofs.Common.{◌≡◌, ℕ, zero, suc, ◌+◌, ◌*◌, ◌/◌, ◌<◌, ◌≤◌, refl, arith}
 use Rattle.std.proofs.Math.Bool.{Bool, true, false, cond}
 use Rattle.std.proofs.Math.Dec.{leb}
+use Rattle.std.proofs.Math.Nat.{mul-le-mul}
 use Rattle.std.proofs.lemmas.Bool.Decides.{leb_tells}
 use Rattle.std.proofs.lemmas.Grind.{common_steps}
 use Rattle.rig_fixed.specs.Number.{IsRoot, root_from, root_of_digits, isqrt}
@@ -29,3 +30,19 @@ root_of_digits-meets (suc digits) (suc n) h =
 
 pub isqrt-meets : (n : ℕ) → IsRoot n (isqrt n)
 isqrt-meets n = root_of_digits-meets n n (omega arith)
+
+-- of two numbers with r·r ≤ n < (s + 1)·(s + 1), the first isn't greater
+pub below_root : (n r s : ℕ) → r * r ≤ n → n < (s + 1) * (s + 1) → r ≤ s
+below_root n r s low high =
+    let contrary : s < r → ⊥ = λ h.
+    let squares : (s + 1) * (s + 1) ≤ r * r = let k : s + 1 ≤ r = omega arith in mul-le-mul k k in
+    omega arith in
+    omega arith
+
+-- there is one root
+pub root_unique : (n r : ℕ) → IsRoot n r → r ≡ isqrt n
+root_unique n r h =
+    let root = isqrt-meets n in
+    let above : r ≤ isqrt n = below_root n r (isqrt n) h.0 root.1 in
+    let below : isqrt n ≤ r = below_root n (isqrt n) r root.0 h.1 in
+    omega arith

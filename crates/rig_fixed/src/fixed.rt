@@ -38,6 +38,15 @@ impl Fx {
         Fx { millionths }
     }
 
+    /// The number nearest to `x`, in millionths, that is within the limits: [`Fx::of`] for what fits 64 bits.
+    pub fn clamped(x: i64) -> Fx
+        ensures { result ≡ clamp x }
+    {
+        Fx {
+            millionths: x.clamp(-LIM, LIM),
+        }
+    }
+
     /// The number of millionths.
     pub fn get(self) -> i64
         ensures value { result ≡ self }

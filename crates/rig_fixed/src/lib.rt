@@ -4,7 +4,11 @@
 
 mod fixed;
 pub mod laws;
+mod number;
+mod rotation;
 mod transform;
 
 pub use fixed::{Fx, LIM, U};
-pub use transform::{Quat, Raw, V3, Xform};
+pub use number::{isqrt, rdiv};
+pub use rotation::rotate;
+pub use transform::{Quat, Raw, V3, Xform, compose, inverse, moved, scaled};

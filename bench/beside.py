@@ -1,0 +1,139 @@
+"""What `bench/numbers` and `bench/strokes` share: they build the proved code and the plain formulas, run both in turn,
+and compare what they print.
+
+The proved side is a program over the repository's crates, built as `rt run` builds any. Its sources stand beside this
+file with the ending .txt, since a .rt file may stand only in a crate. They are copied with the crates that they use into
+a repository of their own in the machine's folder of temporary files, which stays, so that a later run proves only what
+changed. The first run proves the program in some minutes.
+"""
+import os
+import pathlib
+import shutil
+import subprocess
+import sys
+import tempfile
+import zlib
+
+BENCH = pathlib.Path(__file__).resolve().parent
+TOP = BENCH.parent
+RUNS = 25
+
+
+def fail(text):
+    sys.exit(f"{sys.argv[0]}: {text}")
+
+
+def uses(top):
+    """Each crate of a repository with the libraries that it uses."""
+    lines = (line.partition("#")[0].partition(":") for line in (top / "crates.txt").read_text().splitlines())
+    return {name.split()[0]: below.split() for name, _, below in lines if name.split()}
+
+
+def at_or_below(crates, names):
+    """The repository's own crates that the named ones stand on, and they themselves, the lowest first."""
+    found = []
+    for name in names:
+        if name in crates:
+            found += [it for it in [*at_or_below(crates, crates[name]), name] if it not in found]
+    return list(dict.fromkeys(found))
+
+
+def put(files, folder):
+    """Makes a folder hold just these files, by their paths in it, and leaves those as they are that don't change."""
+    kept = {folder / path for path in files}
+    for path in sorted(folder.rglob("*"), reverse=True):
+        if "out" not in path.relative_to(folder).parts and path.is_file() and path not in kept:
+            path.unlink()
+    for path, source in files.items():
+        target = folder / path
+        target.parent.mkdir(parents=True, exist_ok=True)
+        if not target.exists() or target.read_bytes() != source.read_bytes():
+            shutil.copyfile(source, target)
+
+
+def crate_files(folder):
+    parts = (folder / it for it in ("src", "specs", "proofs"))
+    return {path.relative_to(folder): path for part in parts for path in part.rglob("*") if path.is_file()}
+
+
+def program_files(name):
+    """The files of a proved side, without their ending .txt."""
+    folders = (BENCH / "proved" / "common", BENCH / "proved" / name)
+    return {
+        path.relative_to(folder).with_suffix(""): path
+        for folder in folders
+        for path in folder.rglob("*.txt")
+        if path.is_file()
+    }
+
+
+def build_proved(name, libraries, top):
+    """Builds the proved side of a name over the crates of a repository, and returns the program."""
+    place = f"{os.getuid()}-{zlib.crc32(str(top).encode()):08x}"
+    folder = pathlib.Path(tempfile.gettempdir()) / f"rigplay-bench-{name}-{place}"
+    program = f"rig_bench_{name}"
+    crates = uses(top)
+    own = at_or_below(crates, libraries)
+    missing = [it for it in libraries if it not in own]
+    if missing:
+        fail(f"{top}/crates.txt has no crate {missing[0]}")
+    for crate in own:
+        put(crate_files(top / "crates" / crate), folder / "crates" / crate)
+    put(program_files(name), folder / "crates" / program)
+    lines = [f"{crate}: {' '.join(crates[crate])}" for crate in own]
+    (folder / "crates.txt").write_text("\n".join([*lines, f"{program}: {' '.join(libraries)}"]) + "\n")
+    shutil.copyfile(top / "HANDLES", folder / "HANDLES")
+    subprocess.run(["git", "init", "-q", folder], check=True)
+    print(f"{sys.argv[0]}: building the proved side in {folder}", file=sys.stderr)
+    said = folder / "said"
+    with open(said, "w") as sink:
+        words = ["rt", "run", "--", "1"]
+        ran = subprocess.run(words, cwd=folder / "crates" / program, stdout=sink, stderr=subprocess.STDOUT)
+    if ran.returncode != 0:
+        fail(f"'rt run' ended with status {ran.returncode}: {said} has what it said")
+    return folder / "crates" / program / "out" / program
+
+
+def build_plain(name, folder):
+    """Builds the plain side of a name, and returns the program."""
+    program = pathlib.Path(folder) / name
+    subprocess.run(["rustc", "--edition=2024", "-O", "-o", program, BENCH / "plain" / f"{name}.rs"], check=True)
+    return program
+
+
+def run(program, rounds):
+    """The lines that a program prints: for each name the nanoseconds a call, and what must be equal on both sides."""
+    ran = subprocess.run([program, str(rounds)], stdout=subprocess.PIPE, text=True)
+    if ran.returncode != 0:
+        fail(f"{program} ended with status {ran.returncode}")
+    lines = [line.split() for line in ran.stdout.splitlines()]
+    return {name: (int(nanos) / int(calls), (calls, checksum)) for name, nanos, calls, checksum in lines}
+
+
+def fastest_of_both(proved, plain, rounds):
+    """The nanoseconds a call of the proved side and of the plain one, by name: the fastest of some runs of both in turn,
+    since what else the machine does only ever adds time."""
+    best = {}
+    for _ in range(RUNS):
+        one, other = run(proved, rounds), run(plain, rounds)
+        if {name: it[1] for name, it in one.items()} != {name: it[1] for name, it in other.items()}:
+            wrong = [name for name in {**one, **other} if one.get(name, [0, 0])[1] != other.get(name, [0, 1])[1]]
+            fail(f"the two sides differ in {' and '.join(wrong)}")
+        for name in one:
+            times = (one[name][0], other[name][0])
+            best[name] = tuple(map(min, best.get(name, times), times))
+    return best
+
+
+def measure(name, libraries, rounds):
+    """Builds and runs both sides of a name, over the repository that the script's argument gives, else its own."""
+    top = pathlib.Path(sys.argv[1]).resolve() if len(sys.argv) > 1 else TOP
+    if not (top / "crates.txt").is_file():
+        fail(f"{top} has no crates.txt")
+    proved = build_proved(name, libraries, top)
+    with tempfile.TemporaryDirectory() as folder:
+        return fastest_of_both(proved, build_plain(name, folder), rounds)
+
+
+def figure(name, value):
+    print(f"{name}: {value:.2f}", flush=True)
