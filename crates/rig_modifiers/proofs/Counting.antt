@@ -1,0 +1,121 @@
+-- How many points an effect leaves.
+use Rattle.std.proofs.Common.{◌≡◌, ℕ, ◌+◌, ◌-◌, ◌*◌, ◌<◌, ◌≤◌, nat_le, if◌then◌else◌, IsTrue, ◌⊎◌, inl, inr, List, [], ◌∷◌, ◌++◌, length, map, Bool, true, false, refl, sym, ◌∙◌, ap, arith}
+use Rattle.std.specs.List.{flat_map, range_with_len}
+use Rattle.std.proofs.lemmas.Bool.{false≢true}
+use Rattle.std.proofs.lemmas.Bool.Decides.{nat_tests}
+use Rattle.std.proofs.lemmas.List.{length-map}
+use Rattle.std.proofs.lemmas.List.Sums.{sum_by-append, sum_by-cons}
+use Rattle.std.proofs.lemmas.List.FromFn.{length-range_with_len}
+use Rattle.rig_fixed.specs.Rotate.{moved, scaled}
+use Rattle.rig_fixed.specs.declared.transform.V3.{V3}
+use Rattle.rig_scene.specs.declared.channel.Axis.{Axis}
+use Rattle.rig_scene.specs.declared.channel.Axis.TheVariants.{X, Y, Z}
+use Rattle.rig_scene.specs.declared.pencil.Stroke.{Stroke}
+use Rattle.rig_scene.specs.declared.modifier.Effect.{Effect}
+use Rattle.rig_scene.specs.declared.modifier.Effect.TheVariants.{Offset, Mirror, Array}
+use Rattle.rig_scene.specs.declared.modifier.Mirror.{Mirror as MirrorRecord}
+use Rattle.rig_scene.specs.Layer.{most_points, stroke_points, map_points}
+use Rattle.rig_scene.specs.Modify.{reflected_on, mirrored_on, mirror_strokes, times, array_strokes, effect_strokes, modify}
+use Rattle.rig_modifiers.specs.Copies.{doubled, mirror_copies, array_copies, copies}
+
+points-cons : (s : Stroke) (ss : List Stroke) → stroke_points (s ∷ ss) ≡ length s.points + stroke_points ss
+points-cons s ss = sum_by-cons (λ s. length s.points) s ss
+
+points-append : (ss ts : List Stroke) → stroke_points (ss ++ ts) ≡ stroke_points ss + stroke_points ts
+points-append ss ts = sum_by-append (λ s. length s.points) ss ts
+
+-- points that are changed are as many
+pub points-map : (f : V3 → V3) (ss : List Stroke) → stroke_points (map_points f ss) ≡ stroke_points ss
+points-map f [] = refl
+points-map f (s ∷ ss) =
+    let here : length (map f s.points) ≡ length s.points = length-map s.points f in
+    let rest : stroke_points (map_points f ss) ≡ stroke_points ss = points-map f ss in
+    let new : Stroke = record { points = map f s.points } in
+    let first : stroke_points (new ∷ map_points f ss) ≡ length (map f s.points) + stroke_points (map_points f ss) = points-cons new (map_points f ss) in
+    let before : stroke_points (s ∷ ss) ≡ length s.points + stroke_points ss = points-cons s ss in
+    first ∙ ap (λ n. n + stroke_points (map_points f ss)) here ∙ ap (λ n. length s.points + n) rest ∙ sym before
+
+pub points-mirrored_on : (on : Bool) (axis : Axis) (centre : V3) (ss : List Stroke) → stroke_points (mirrored_on on axis centre ss) ≡ doubled on * stroke_points ss
+points-mirrored_on false axis centre ss = omega arith
+points-mirrored_on true axis centre ss =
+    let both : stroke_points (ss ++ map_points (reflected_on axis centre) ss) ≡ stroke_points ss + stroke_points (map_points (reflected_on axis centre) ss) = points-append ss (map_points (reflected_on axis centre) ss) in
+    let same : stroke_points (map_points (reflected_on axis centre) ss) ≡ stroke_points ss = points-map (reflected_on axis centre) ss in
+    both ∙ (omega arith)
+
+regrouped : (a b c n : ℕ) → c * (b * (a * n)) ≡ a * b * c * n
+regrouped a b c n = omega arith
+
+points-mirror : (mirror : MirrorRecord) (centre : V3) (ss : List Stroke) → stroke_points (mirror_strokes mirror centre ss) ≡ mirror_copies mirror * stroke_points ss
+points-mirror mirror centre ss =
+    let once = mirrored_on mirror.x X centre ss in
+    let twice = mirrored_on mirror.y Y centre once in
+    points-mirrored_on mirror.z Z centre twice
+    ∙ ap (λ n. doubled mirror.z * n) (points-mirrored_on mirror.y Y centre once ∙ ap (λ n. doubled mirror.y * n) (points-mirrored_on mirror.x X centre ss))
+    ∙ regrouped (doubled mirror.x) (doubled mirror.y) (doubled mirror.z) (stroke_points ss)
+
+one_more : (m n : ℕ) → n + m * n ≡ (1 + m) * n
+one_more m n = omega arith
+
+-- each of several copies has as many points
+points-copies : (change : ℕ → V3 → V3) (ss : List Stroke) (ks : List ℕ) → stroke_points (flat_map (λ k. map_points (change k) ss) ks) ≡ length ks * stroke_points ss
+points-copies change ss [] = omega arith
+points-copies change ss (k ∷ ks) =
+    let one : stroke_points (map_points (change k) ss) ≡ stroke_points ss = points-map (change k) ss in
+    let rest : stroke_points (flat_map (λ k. map_points (change k) ss) ks) ≡ length ks * stroke_points ss = points-copies change ss ks in
+    let count : length (k ∷ ks) ≡ 1 + length ks = omega arith in
+    points-append (map_points (change k) ss) (flat_map (λ k. map_points (change k) ss) ks)
+    ∙ ap (λ n. n + stroke_points (flat_map (λ k. map_points (change k) ss) ks)) one
+    ∙ ap (λ n. stroke_points ss + n) rest
+    ∙ one_more (length ks) (stroke_points ss)
+    ∙ ap (λ n. n * stroke_points ss) (sym count)
+
+points-array : (count : ℕ) (offset : V3) (ss : List Stroke) → stroke_points (array_strokes count offset ss) ≡ array_copies count * stroke_points ss
+points-array count offset ss =
+    let change : ℕ → V3 → V3 = λ k p. moved p (times k offset) in
+    let ks = range_with_len 1 (count - 1) in
+    let all : 1 + (count - 1) ≡ array_copies count = omega arith in
+    points-append ss (flat_map (λ k. map_points (change k) ss) ks)
+    ∙ ap (λ n. stroke_points ss + n) (points-copies change ss ks ∙ ap (λ n. n * stroke_points ss) (length-range_with_len 1 (count - 1)))
+    ∙ one_more (count - 1) (stroke_points ss)
+    ∙ ap (λ n. n * stroke_points ss) all
+
+-- an effect leaves so many times the points
+pub points-effect : (effect : Effect) (centre : V3) (ss : List Stroke) → stroke_points (effect_strokes effect centre ss) ≡ copies effect * stroke_points ss
+points-effect (Offset loc scale) centre ss =
+    let same : stroke_points (effect_strokes (Offset loc scale) centre ss) ≡ stroke_points ss = points-map (λ p. moved (scaled scale p) loc) ss in
+    same ∙ sym (omega arith)
+points-effect (Mirror mirror) centre ss = points-mirror mirror centre ss
+points-effect (Array count offset) centre ss = points-array count offset ss
+
+compared : (n most : ℕ) → (n ≤ most) ⊎ (most < n)
+compared n most = grind (arith, nat_tests)
+
+chosen : (n : ℕ) (few many : List Stroke) → n ≤ most_points → (if nat_le n most_points then few else many) ≡ few
+chosen n few many within =
+    let test : nat_le n most_points ≡ true = grind (arith, nat_tests) in
+    rw test
+
+left : (n : ℕ) (few many : List Stroke) → most_points < n → (if nat_le n most_points then few else many) ≡ many
+left n few many above =
+    let test : nat_le n most_points ≡ false = grind (arith, nat_tests) in
+    rw test
+
+-- the effect is what a modifier does where there is room
+pub modify-within : (effect : Effect) (centre : V3) (ss : List Stroke) (n : ℕ) → n ≡ copies effect → n * stroke_points ss ≤ most_points → effect_strokes effect centre ss ≡ modify effect centre ss
+unfolding modify
+modify-within effect centre ss n is within =
+    let points : n * stroke_points ss ≡ stroke_points (effect_strokes effect centre ss) = ap (λ n. n * stroke_points ss) is ∙ sym (points-effect effect centre ss) in
+    let few : stroke_points (effect_strokes effect centre ss) ≤ most_points = omega arith in
+    sym (chosen (stroke_points (effect_strokes effect centre ss)) (effect_strokes effect centre ss) ss few)
+
+-- the strokes stay where there is none
+pub modify-above : (effect : Effect) (centre : V3) (ss : List Stroke) (n : ℕ) → n ≡ copies effect → most_points < n * stroke_points ss → ss ≡ modify effect centre ss
+unfolding modify
+modify-above effect centre ss n is above =
+    let points : n * stroke_points ss ≡ stroke_points (effect_strokes effect centre ss) = ap (λ n. n * stroke_points ss) is ∙ sym (points-effect effect centre ss) in
+    let many : most_points < stroke_points (effect_strokes effect centre ss) = omega arith in
+    sym (left (stroke_points (effect_strokes effect centre ss)) (effect_strokes effect centre ss) ss many)
+
+-- what isn't within a limit is above it
+pub above : (n most : ℕ) → (n ≤ most → IsTrue false) → most < n
+above n most fails = elim (compared n most) [ inl within ↦ absurd (false≢true (fails within)) | inr beyond ↦ beyond ]
