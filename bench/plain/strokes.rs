@@ -78,7 +78,7 @@ fn main() {
     let rounds = rounds();
     keep_the_heap();
     let mut random = Random::new();
-    let strokes: Strokes = (0..3).map(|_| (0..100).map(|_| random.place()).collect()).collect();
+    let strokes: Strokes = vec![(0..300).map(|_| random.place()).collect()];
     let places: Vec<V3> = (0..EFFECTS).map(|_| random.place()).collect();
     let scales: Vec<i64> = (0..EFFECTS).map(|_| random.scale()).collect();
     let transforms: Vec<Xform> = (0..EFFECTS).map(|_| random.transform()).collect();
