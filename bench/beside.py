@@ -101,21 +101,22 @@ def build_plain(name, folder):
     return program
 
 
-def run(program, rounds):
-    """The lines that a program prints: for each name the nanoseconds a call, and what must be equal on both sides."""
-    ran = subprocess.run([program, str(rounds)], stdout=subprocess.PIPE, text=True)
+def run(program, rounds, settings):
+    """The lines that a program prints: for each name the nanoseconds a call, and what must be equal on both sides. The
+    settings are variables of its environment."""
+    ran = subprocess.run([program, str(rounds)], stdout=subprocess.PIPE, text=True, env={**os.environ, **settings})
     if ran.returncode != 0:
         fail(f"{program} ended with status {ran.returncode}")
     lines = [line.split() for line in ran.stdout.splitlines()]
     return {name: (int(nanos) / int(calls), (calls, checksum)) for name, nanos, calls, checksum in lines}
 
 
-def fastest_of_both(proved, plain, rounds):
+def fastest_of_both(proved, plain, rounds, settings):
     """The nanoseconds a call of the proved side and of the plain one, by name: the fastest of some runs of both in turn,
     since what else the machine does only ever adds time."""
     best = {}
     for _ in range(RUNS):
-        one, other = run(proved, rounds), run(plain, rounds)
+        one, other = run(proved, rounds, settings), run(plain, rounds, settings)
         if {name: it[1] for name, it in one.items()} != {name: it[1] for name, it in other.items()}:
             wrong = [name for name in {**one, **other} if one.get(name, [0, 0])[1] != other.get(name, [0, 1])[1]]
             fail(f"the two sides differ in {' and '.join(wrong)}")
@@ -125,14 +126,16 @@ def fastest_of_both(proved, plain, rounds):
     return best
 
 
-def measure(name, libraries, rounds):
-    """Builds and runs both sides of a name, over the repository that the script's argument gives, else its own."""
+def measure(name, libraries, rounds, *many_settings):
+    """Builds both sides of a name, over the repository that the script's argument gives, else its own, and runs them under
+    each of some settings."""
     top = pathlib.Path(sys.argv[1]).resolve() if len(sys.argv) > 1 else TOP
     if not (top / "crates.txt").is_file():
         fail(f"{top} has no crates.txt")
     proved = build_proved(name, libraries, top)
     with tempfile.TemporaryDirectory() as folder:
-        return fastest_of_both(proved, build_plain(name, folder), rounds)
+        plain = build_plain(name, folder)
+        return [fastest_of_both(proved, plain, rounds, it) for it in many_settings]
 
 
 def figure(name, value):

@@ -11,6 +11,9 @@ type Strokes = Vec<Vec<V3>>;
 /// The effects of each kind.
 const EFFECTS: usize = 8;
 
+/// Into how many strokes the 300 points are divided.
+const STROKES: [usize; 3] = [1, 3, 20];
+
 /// Strokes with each point changed.
 fn changed(strokes: &Strokes, change: impl Fn(V3) -> V3) -> Strokes {
     let mut made = Vec::new();
@@ -51,6 +54,10 @@ fn layer(strokes: &Strokes, offset: V3, deform: &Xform) -> Strokes {
     changed(strokes, |p| carry(deform, moved(p, offset)))
 }
 
+fn moved_layer(strokes: &Strokes, offset: V3) -> Strokes {
+    changed(strokes, |p| moved(p, offset))
+}
+
 fn last(strokes: &Strokes) -> i64 {
     strokes.last().and_then(|stroke| stroke.last()).map_or(0, |p| p.x)
 }
@@ -77,14 +84,17 @@ fn keep_the_heap() {
 fn main() {
     let rounds = rounds();
     keep_the_heap();
-    let mut random = Random::new();
-    let strokes: Strokes = vec![(0..300).map(|_| random.place()).collect()];
-    let places: Vec<V3> = (0..EFFECTS).map(|_| random.place()).collect();
-    let scales: Vec<i64> = (0..EFFECTS).map(|_| random.scale()).collect();
-    let transforms: Vec<Xform> = (0..EFFECTS).map(|_| random.transform()).collect();
-    time_making("offset", rounds, 300, |i| offset(&strokes, places[i], scales[i]));
-    time_making("mirror", rounds, 2_400, |i| mirror(&strokes, places[i]));
-    time_making("array", rounds, 16_200, |i| array(&strokes, 54, places[i]));
-    time_making("bound-layer", rounds, 300, |i| layer(&strokes, places[i], &transforms[i]));
-    time_making("bound-layer-at-rest", rounds, 300, |i| layer(&strokes, places[i], black_box(&IDENTITY)));
+    for count in STROKES {
+        let mut random = Random::new();
+        let strokes: Strokes = (0..count).map(|_| (0..300 / count).map(|_| random.place()).collect()).collect();
+        let places: Vec<V3> = (0..EFFECTS).map(|_| random.place()).collect();
+        let scales: Vec<i64> = (0..EFFECTS).map(|_| random.scale()).collect();
+        let transforms: Vec<Xform> = (0..EFFECTS).map(|_| random.transform()).collect();
+        time_making(&format!("offset/{count}"), rounds, 300, |i| offset(&strokes, places[i], scales[i]));
+        time_making(&format!("mirror/{count}"), rounds, 2_400, |i| mirror(&strokes, places[i]));
+        time_making(&format!("array/{count}"), rounds, 16_200, |i| array(&strokes, 54, places[i]));
+        time_making(&format!("layer/{count}"), rounds, 300, |i| moved_layer(&strokes, places[i]));
+        time_making(&format!("bound-layer/{count}"), rounds, 300, |i| layer(&strokes, places[i], &transforms[i]));
+        time_making(&format!("bound-layer-at-rest/{count}"), rounds, 300, |i| layer(&strokes, places[i], black_box(&IDENTITY)));
+    }
 }

@@ -47,6 +47,14 @@ impl Fx {
         }
     }
 
+    /// The number `x`, in millionths, for who knows that it is within the limits: nothing is tested.
+    pub fn new(x: i64) -> Fx
+        requires { IsWithinLimits x }
+        ensures { result ≡ x }
+    {
+        Fx { millionths: x }
+    }
+
     /// The number of millionths.
     pub fn get(self) -> i64
         ensures value { result ≡ self }

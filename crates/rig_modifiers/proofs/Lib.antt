@@ -1,2 +1,3 @@
 mod Copying
 mod Counting
+mod Sides

@@ -7,7 +7,7 @@ use crate::count::{array_copies, room_for};
 use rig_fixed::{Fx, V3};
 use rig_io::{List, NoMemory};
 use rig_scene::{Stroke, Strokes};
-use rig_strokes::{PointMap, append_copies, append_strokes};
+use rig_strokes::{PointMap, append_copies, append_strokes, are_near};
 use std::alloc::Global;
 
 /// Strokes, and copies up to a count in all, each moved by one more offset.
@@ -19,10 +19,12 @@ pub(crate) fn arrayed(
 ) -> Result<Strokes, NoMemory>
     ensures { IfOk result (λ new. new ≡ array_strokes count offset.now strokes.now) }
 {
+    let near = are_near(strokes);
     let mut new = room_for(alloc, strokes, array_copies(count))?;
     append_copies(alloc, &mut new, strokes)?;
     for k in 1..count {
-        append_strokes(alloc, &mut new, strokes, &PointMap::Moved(times(k, offset)))?;
+        let moving = PointMap::Moved(times(k, offset));
+        append_strokes(alloc, &mut new, strokes, near, &moving)?;
     }
     Ok(List::from(new))
 }

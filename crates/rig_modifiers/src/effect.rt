@@ -49,7 +49,13 @@ fn scaled(alloc: Global, strokes: &[Stroke], scale: Fx, loc: &V3) -> Result<Stro
     ensures { IfOk result (λ new. new ≡ offset_strokes loc.now scale strokes.now) }
 {
     let mut new = room_for(alloc, strokes, 1)?;
-    append_strokes(alloc, &mut new, strokes, &PointMap::Scaled(scale, *loc))?;
+    append_strokes(
+        alloc,
+        &mut new,
+        strokes,
+        false,
+        &PointMap::Scaled(scale, *loc),
+    )?;
     Ok(List::from(new))
 }
 

@@ -22,11 +22,11 @@ fn one_stroke(alloc: Global, point: &V3, count: usize) -> Result<Strokes, Fail> 
     Ok(List::from(vec![in alloc; stroke]?))
 }
 
-fn mirror_on(x: bool, y: bool) -> Effect {
+fn mirror_on(x: bool, y: bool, z: bool) -> Effect {
     Effect::Mirror(Mirror {
         x,
         y,
-        z: false,
+        z,
         centre: None,
     })
 }
@@ -42,14 +42,28 @@ fn array_of(count: u32) -> Effect {
 fn mirror_appends_for_each_axis(rt: HostRuntime) -> Result<(), Fail> {
     let alloc = rt.alloc();
     let one = one_stroke(alloc, &point(1, 2, 3), 1)?;
-    let new = modify(alloc, &mirror_on(true, true), &one, point(0, 0, 0))?;
-    let places = [(1, 2, 3), (-1, 2, 3), (1, -2, 3), (-1, -2, 3)];
-    assert_eq!(rt; new.len(), 4);
+    let new = modify(alloc, &mirror_on(true, true, true), &one, point(0, 0, 0))?;
+    let places = [
+        (1, 2, 3),
+        (-1, 2, 3),
+        (1, -2, 3),
+        (-1, -2, 3),
+        (1, 2, -3),
+        (-1, 2, -3),
+        (1, -2, -3),
+        (-1, -2, -3),
+    ];
+    assert_eq!(rt; new.len(), 8);
     for (stroke, (x, y, z)) in new.as_slice().iter().zip(places.iter()) {
         assert_eq!(rt; stroke.points.as_slice(), [point(*x, *y, *z)].as_slice());
     }
     let one = one_stroke(alloc, &point(500_000, 0, 0), 1)?;
-    let new = modify(alloc, &mirror_on(true, false), &one, point(2_000_000, 0, 0))?;
+    let new = modify(
+        alloc,
+        &mirror_on(true, false, false),
+        &one,
+        point(2_000_000, 0, 0),
+    )?;
     assert_eq!(rt; new.len(), 2);
     assert_eq!(rt;
         new.get(1).points.as_slice(),
@@ -88,7 +102,7 @@ fn offset_scales_and_moves(rt: HostRuntime) -> Result<(), Fail> {
         new.get(0).points.as_slice(),
         [point(13, -2, 1_000_000_000_000)].as_slice()
     );
-    for effect in [offset, mirror_on(true, true), array_of(64)] {
+    for effect in [offset, mirror_on(true, true, false), array_of(64)] {
         let none = List::new(alloc);
         assert_eq!(rt; modify(alloc, &effect, &none, point(0, 0, 0))?.len(), 0);
     }

@@ -1,2 +1,4 @@
+mod Bits
 mod InPlace
 mod KeyOrder
+mod Unclamped

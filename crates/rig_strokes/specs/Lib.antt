@@ -1,1 +1,3 @@
+pub mod Near
 pub mod Points
+pub mod Shift

@@ -1,10 +1,12 @@
 // The strokes of a layer.
-ghost use Rattle.std.specs.Prelude.{◌≡◌, [], IfOk};
+ghost use Rattle.std.specs.Prelude.{◌≡◌, [], IsTrue, IfOk};
 ghost use Rattle.std.specs.Option.{option_copied, option_map_or};
 ghost use Rattle.rig_scene.specs.Layer.{map_points, shown_point};
+ghost use Rattle.rig_strokes.specs.Near.{AreNear};
 ghost use Rattle.rig_strokes.specs.Points.{point_under};
 
 use crate::append::append_strokes;
+use crate::near::are_near;
 use crate::point::PointMap;
 use rig_fixed::{V3, Xform};
 use rig_io::{List, NoMemory};
@@ -27,19 +29,21 @@ pub fn layer_strokes(
     };
     let strokes = drawing.strokes.as_slice();
     match deform {
-        None => changed_strokes(alloc, strokes, &PointMap::Moved(offset)),
-        Some(deform) => changed_strokes(alloc, strokes, &PointMap::Carried(offset, *deform)),
+        None => changed_strokes(alloc, strokes, are_near(strokes), &PointMap::Moved(offset)),
+        Some(deform) => changed_strokes(alloc, strokes, false, &PointMap::Carried(offset, *deform)),
     }
 }
 
 fn changed_strokes(
     alloc: Global,
     strokes: &[Stroke],
+    near: bool,
     change: &PointMap,
 ) -> Result<Strokes, NoMemory>
+    requires { IsTrue near → AreNear strokes.now }
     ensures { IfOk result (λ new. new ≡ map_points (point_under change.now) strokes.now) }
 {
     let mut new = Vec::with_capacity(alloc, strokes.len())?;
-    append_strokes(alloc, &mut new, strokes, change)?;
+    append_strokes(alloc, &mut new, strokes, near, change)?;
     Ok(List::from(new))
 }

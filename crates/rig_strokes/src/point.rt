@@ -1,12 +1,18 @@
 // What is done to each point of strokes, in place.
-ghost use Rattle.std.specs.Prelude.{◌≡◌, ◌+ℤ◌, map};
-ghost use Rattle.rig_fixed.specs.Fixed.{clamp};
+ghost use Rattle.std.specs.Prelude.{◌≡◌, pos, negsuc, ◌*ℤ◌, ◌≤ℤ◌, map};
 ghost use Rattle.rig_fixed.specs.Rotate.{moved, scaled, carry};
-ghost use Rattle.rig_scene.specs.Modify.{reflected, reflected_on};
-ghost use Rattle.rig_strokes.specs.Points.{point_under};
+ghost use Rattle.rig_scene.specs.Modify.{reflected};
+ghost use Rattle.rig_strokes.specs.Points.{point_under, reflected_over, reflected_where};
 
-use rig_fixed::{Fx, LIM, V3, Xform, moved, scaled};
-use rig_scene::Axis;
+use rig_fixed::{Fx, V3, Xform, moved, scaled};
+
+/// The axes along which points are put on the other side of a centre.
+#[derive(Clone, Copy, Debug, PartialEq, Eq)]
+pub struct Axes {
+    pub x: bool,
+    pub y: bool,
+    pub z: bool,
+}
 
 /// What is done to a point: each coordinate is in millionths, and stays within the limits.
 #[derive(Clone, Copy, Debug, PartialEq, Eq)]
@@ -17,8 +23,8 @@ pub enum PointMap {
     Carried(V3, Xform),
     /// It is scaled about 0 by a factor in millionths, and then moved by an offset.
     Scaled(Fx, V3),
-    /// Its coordinate on an axis is put on the other side of a centre.
-    Reflected(Axis, V3),
+    /// Its coordinate on each of some axes is put on the other side of a centre.
+    Reflected(Axes, V3),
 }
 
 /// Changes each point.
@@ -29,9 +35,7 @@ pub(crate) fn change_points(points: &mut [V3], change: &PointMap)
         PointMap::Moved(offset) => move_points(points, offset),
         PointMap::Carried(offset, deform) => carry_points(points, offset, deform),
         PointMap::Scaled(scale, loc) => scale_points(points, *scale, loc),
-        PointMap::Reflected(Axis::X, centre) => reflect_on_x(points, centre),
-        PointMap::Reflected(Axis::Y, centre) => reflect_on_y(points, centre),
-        PointMap::Reflected(Axis::Z, centre) => reflect_on_z(points, centre),
+        PointMap::Reflected(axes, centre) => reflect_points(points, axes, centre),
     }
 }
 
@@ -40,40 +44,8 @@ fn move_points(points: &mut [V3], offset: &V3)
 {
     let (x, y, z) = (offset.x, offset.y, offset.z);
     for point in points.iter_mut() {
-        *point = moved_within(*point, &V3 { x, y, z });
+        *point = moved(*point, V3 { x, y, z });
     }
-}
-
-/// The place `a`, moved by `b`. Sums within the limits are told by a test, and the others are seldom.
-fn moved_within(a: V3, b: &V3) -> V3
-    ensures { result ≡ moved a b.now }
-{
-    V3 {
-        x: sum_within(a.x, b.x),
-        y: sum_within(a.y, b.y),
-        z: sum_within(a.z, b.z),
-    }
-}
-
-/// A sum, clamped.
-fn sum_within(a: Fx, b: Fx) -> Fx
-    ensures { result ≡ clamp (a +ℤ b) }
-{
-    let sum = a.get() + b.get();
-    if -LIM <= sum && sum <= LIM {
-        Fx::clamped(sum)
-    } else {
-        beyond_the_limits(sum)
-    }
-}
-
-/// A number that is beyond the limits, clamped. It is called seldom, so it isn't made part of its callers.
-#[cold]
-#[inline(never)]
-fn beyond_the_limits(number: i64) -> Fx
-    ensures { result ≡ clamp number }
-{
-    Fx::clamped(number)
 }
 
 fn carry_points(points: &mut [V3], offset: &V3, deform: &Xform)
@@ -93,30 +65,31 @@ fn scale_points(points: &mut [V3], scale: Fx, loc: &V3)
     }
 }
 
-fn reflect_on_x(points: &mut [V3], centre: &V3)
-    ensures { points.new ≡ map (reflected_on Axis.X centre.now) points.old }
+fn reflect_points(points: &mut [V3], axes: &Axes, centre: &V3)
+    ensures { points.new ≡ map (reflected_over axes.now centre.now) points.old }
 {
-    let middle = centre.x;
     for point in points.iter_mut() {
-        point.x = reflected(middle, point.x);
+        *point = reflected_over(point, axes, centre);
     }
 }
 
-fn reflect_on_y(points: &mut [V3], centre: &V3)
-    ensures { points.new ≡ map (reflected_on Axis.Y centre.now) points.old }
+fn reflected_over(point: &V3, axes: &Axes, centre: &V3) -> V3
+    ensures { result ≡ reflected_over axes.now centre.now point.now }
 {
-    let middle = centre.y;
-    for point in points.iter_mut() {
-        point.y = reflected(middle, point.y);
+    V3 {
+        x: reflected_where(axes.x, centre.x, point.x),
+        y: reflected_where(axes.y, centre.y, point.y),
+        z: reflected_where(axes.z, centre.z, point.z),
     }
 }
 
-fn reflect_on_z(points: &mut [V3], centre: &V3)
-    ensures { points.new ≡ map (reflected_on Axis.Z centre.now) points.old }
+fn reflected_where(on: bool, centre: Fx, coordinate: Fx) -> Fx
+    ensures { result ≡ reflected_where on centre coordinate }
 {
-    let middle = centre.z;
-    for point in points.iter_mut() {
-        point.z = reflected(middle, point.z);
+    if on {
+        reflected(centre, coordinate)
+    } else {
+        coordinate
     }
 }
 
@@ -124,5 +97,13 @@ fn reflect_on_z(points: &mut [V3], centre: &V3)
 fn reflected(centre: Fx, coordinate: Fx) -> Fx
     ensures { result ≡ reflected centre coordinate }
 {
-    Fx::clamped(2 * centre.get() - coordinate.get())
+    Fx::clamped(doubled(centre) - coordinate.get())
+}
+
+/// Twice a number. It may be beyond the limits.
+pub(crate) fn doubled(number: Fx) -> i64
+    ensures value { result ≡ pos 2 *ℤ number }
+    ensures within { (negsuc 1999999999999 ≤ℤ result) × (result ≤ℤ pos 2000000000000) }
+{
+    2 * number.get()
 }

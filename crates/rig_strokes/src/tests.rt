@@ -2,7 +2,7 @@
 use super::*;
 use rig_fixed::{Fx, V3, Xform};
 use rig_io::List;
-use rig_scene::{Axis, Drawing, Layer, LayerKey, Name, Stroke};
+use rig_scene::{Drawing, Layer, LayerKey, Name, Stroke};
 use std::alloc::Global;
 use std::test::Fail;
 
@@ -72,11 +72,19 @@ fn strokes_are_appended(rt: HostRuntime) -> Result<(), Fail> {
     let more = vec![in alloc; stroke(alloc, &[point(500_000, 7, 8)])?]?;
     let mut strokes = Vec::new(alloc);
     append_copies(alloc, &mut strokes, more.as_slice())?;
-    append_reflected(alloc, &mut strokes, Axis::X, point(2_000_000, 0, 0))?;
+    let axes = Axes {
+        x: true,
+        y: false,
+        z: false,
+    };
+    let across = PointMap::Reflected(axes, point(2_000_000, 0, 0));
+    let near = are_near(more.as_slice());
+    append_strokes(alloc, &mut strokes, more.as_slice(), near, &across)?;
     append_strokes(
         alloc,
         &mut strokes,
         more.as_slice(),
+        near,
         &PointMap::Scaled(Fx::clamped(2_000_000), point(0, 0, 1)),
     )?;
     assert_eq!(rt; strokes.len(), 3);
@@ -92,5 +100,76 @@ fn strokes_are_appended(rt: HostRuntime) -> Result<(), Fail> {
         strokes[2].points.as_slice(),
         [point(1_000_000, 14, 17)].as_slice()
     );
+    Ok(())
+}
+
+// The points of one stroke, after a change.
+fn changed(alloc: Global, points: &[V3], change: &PointMap) -> Result<List<V3>, Fail> {
+    let more = vec![in alloc; stroke(alloc, points)?]?;
+    let near = are_near(more.as_slice());
+    let mut strokes = Vec::new(alloc);
+    append_strokes(alloc, &mut strokes, more.as_slice(), near, change)?;
+    let Stroke { points } = strokes.pop().ok_or("no stroke")?;
+    Ok(points)
+}
+
+#[test]
+fn near_and_far_points_are_moved(rt: HostRuntime) -> Result<(), Fail> {
+    let alloc = rt.alloc();
+    let limit = 1_000_000_000_000;
+    let change = PointMap::Moved(point(1, -2, 400_000_000_000));
+    let near = [
+        point(1, 2, 3),
+        point(-4, 5, -6),
+        point(7, -8, 500_000_000_000),
+    ];
+    let after = [
+        point(2, 0, 400_000_000_003),
+        point(-3, 3, 399_999_999_994),
+        point(8, -10, 900_000_000_000),
+    ];
+    assert_eq!(rt;
+        changed(alloc, &near, &change)?.as_slice(),
+        after.as_slice()
+    );
+    let far = [point(limit, -limit, -limit), point(-limit, 0, limit)];
+    let after = [
+        point(limit, -limit, -600_000_000_000),
+        point(1 - limit, -2, limit),
+    ];
+    assert_eq!(rt; changed(alloc, &far, &change)?.as_slice(), after.as_slice());
+    Ok(())
+}
+
+#[test]
+fn near_and_far_points_are_put_on_the_other_side(rt: HostRuntime) -> Result<(), Fail> {
+    let alloc = rt.alloc();
+    let limit = 1_000_000_000_000;
+    let axes = Axes {
+        x: true,
+        y: false,
+        z: true,
+    };
+    let change = PointMap::Reflected(axes, point(10, 20, -30));
+    let near = [
+        point(1, 2, 3),
+        point(-4, 5, -6),
+        point(7, -8, 500_000_000_000),
+    ];
+    let after = [
+        point(19, 2, -63),
+        point(24, 5, -54),
+        point(13, -8, -500_000_000_060),
+    ];
+    assert_eq!(rt;
+        changed(alloc, &near, &change)?.as_slice(),
+        after.as_slice()
+    );
+    let far = [point(limit, -limit, -limit), point(-limit, 0, limit)];
+    let after = [
+        point(20 - limit, -limit, limit - 60),
+        point(limit, 0, -limit),
+    ];
+    assert_eq!(rt; changed(alloc, &far, &change)?.as_slice(), after.as_slice());
     Ok(())
 }

@@ -12,5 +12,5 @@ loop-k-preserved c =
     let k = c.loop-k.k in
     let within : k < c.args.count = omega arith in
     copied_more (λ k. map_points (λ p. moved p (times k offset)) ss) k c.args.count c.loop-k.new.items c.append_strokes.new.strokes.items (array_strokes c.args.count offset ss) within
-    (copy_by c.loop-k.new.items c.append_strokes.new.strokes.items ss (times k offset) c.times.result c.times.ensures c.in_ok-append_strokes.ensures)
+    (copy_by c.loop-k.new.items c.append_strokes.new.strokes.items ss (times k offset) c.times.result c.times.ensures c.in_ok-append_strokes.ensures.ok)
     c.loop-k.invariant
