@@ -48,6 +48,8 @@ fn move_points(points: &mut [V3], offset: &V3)
     }
 }
 
+// What computes much stays a function of its own, as does the next: as parts of one, both were a tenth slower.
+#[inline(never)]
 fn carry_points(points: &mut [V3], offset: &V3, deform: &Xform)
     ensures { points.new ≡ map (λ p. carry deform.now (moved p offset.now)) points.old }
 {
@@ -56,6 +58,7 @@ fn carry_points(points: &mut [V3], offset: &V3, deform: &Xform)
     }
 }
 
+#[inline(never)]
 fn scale_points(points: &mut [V3], scale: Fx, loc: &V3)
     ensures { points.new ≡ map (λ p. moved (scaled scale p) loc.now) points.old }
 {
