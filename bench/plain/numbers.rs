@@ -47,16 +47,16 @@ fn keys_of(random: &mut Random, count: u16) -> Vec<Key> {
 }
 
 /// Frames from a few before the first key to a few after the last one.
-fn frames_of(random: &mut Random, count: u16) -> Vec<i32> {
-    (0..MANY).map(|_| (random.next() % (7 * count as u64 + 20)) as i32 - 10).collect()
+fn frames_of(random: &mut Random, count: u16, frames: u32) -> Vec<i32> {
+    (0..frames).map(|_| (random.next() % (7 * count as u64 + 20)) as i32 - 10).collect()
 }
 
-fn time_curve(name: &str, rounds: u32, random: &mut Random, count: u16) {
+fn time_curve(name: &str, rounds: u32, random: &mut Random, count: u16, frames: u32) {
     let keys = keys_of(random, count);
-    let frames = frames_of(random, count);
-    timed(name, rounds, MANY as u32, |start| {
+    let all = frames_of(random, count, frames);
+    timed(name, rounds, frames, |start| {
         let keys = black_box(&keys);
-        frames.iter().fold(start, |sum, frame| mix(sum, at(keys, *frame).unwrap_or(0)))
+        all.iter().fold(start, |sum, frame| mix(sum, at(keys, *frame).unwrap_or(0)))
     });
 }
 
@@ -88,7 +88,9 @@ fn main() {
         let parent = black_box(&parent);
         transforms.iter().fold(start, |sum, child| mix_transform(sum, &compose(parent, child)))
     });
-    time_curve("at-10", rounds, &mut random, 10);
-    time_curve("at-1000", rounds, &mut random, 1_000);
-    time_curve("at-60000", rounds, &mut random, 60_000);
+    time_curve("at-10", rounds, &mut random, 10, 512);
+    time_curve("at-1000", rounds, &mut random, 1_000, 512);
+    time_curve("at-60000", rounds, &mut random, 60_000, 512);
+    time_curve("at-10-and-65536-frames", rounds / 128 + 1, &mut random, 10, 65_536);
+    time_curve("at-1000-and-65536-frames", rounds / 128 + 1, &mut random, 1_000, 65_536);
 }

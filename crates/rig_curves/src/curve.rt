@@ -1,51 +1,28 @@
-// A curve's value: the keys around a frame are found by halves, and the value is held or on the line between them.
-ghost use Rattle.std.specs.Prelude.{◌≡◌, ◌↔◌, ◌≤◌, [], length, IsNone, filter, take, slice_get, IsTrue, pos, negsuc, int_le, int_lt, ◌*ℤ◌, ◌≤ℤ◌, ◌<ℤ◌};
+//! A curve's value: the keys around a frame are found by binary search, and the value is that of a key or on the line
+//! between two.
+ghost use Rattle.std.specs.Prelude.{◌≡◌, ◌↔◌, [], IsNone, IsTrue, pos, negsuc, int_lt, ◌*ℤ◌, ◌≤ℤ◌, ◌<ℤ◌};
 ghost use Rattle.std.specs.Int.{int_min, int_max};
 ghost use Rattle.std.specs.Option.{ForSome, option_copied};
-ghost use Rattle.std.specs.List.{last_or};
-ghost use Rattle.rig_scene.specs.Distinct.{are_rising};
 ghost use Rattle.rig_fixed.specs.Fixed.{IsWithinLimits};
 ghost use Rattle.rig_fixed.specs.Number.{rdiv};
-ghost use Rattle.rig_scene.specs.Curve.{curve_at, key_after, value_from_keys, value_between, line_through};
+ghost use Rattle.rig_scene.specs.Distinct.{are_rising};
+ghost use Rattle.rig_scene.specs.Curve.{curve_value, value_from_keys, value_between, line_through};
 
 use rig_fixed::{Fx, rdiv};
-use rig_scene::{Curve, Interp, Key};
+use rig_scene::{Curve, Interp, Key, keys_around};
 
 /// The value of a curve at a frame, in millionths (Blender Manual, F-curves). `None` comes exactly where the curve
 /// has no keys.
-///
-/// From a constant key on the value stands still, up to the next key. From a linear key on it is on the straight line
-/// to the next key, rounded to the nearest millionth, a half upward. Before the first key it is that key's value, and
-/// from the last one on that key's.
 pub fn at(curve: &Curve, frame: i32) -> Option<Fx>
     requires rising { IsTrue (are_rising (λ j k. int_lt j.frame k.frame) curve.now.keys) }
-    ensures value { result ≡ curve_at curve.now.keys frame }
+    ensures value { result ≡ curve_value curve.now frame }
     ensures none { IsNone result ↔ (curve.now.keys ≡ []) }
 {
-    let keys = curve.keys.as_slice();
-    let past = past_keys(keys, frame);
-    value_from(last_of(keys, past), keys.get(past), frame)
+    let (left, right) = keys_around(curve.keys.as_slice(), frame);
+    value_from(left, right, frame)
 }
 
-// The number of the keys that aren't after the frame. They come first.
-fn past_keys(keys: &[Key], frame: i32) -> usize
-    requires { IsTrue (are_rising (λ j k. int_lt j.frame k.frame) keys.now) }
-    ensures within { result ≤ length keys.now }
-    ensures past { filter (λ k. int_le k.frame frame) keys.now ≡ take result keys.now }
-    ensures next { key_after frame keys.now ≡ slice_get keys.now result }
-{
-    keys.partition_point(|key| key.frame <= frame)
-}
-
-// The last one of the first so many keys.
-fn last_of(keys: &[Key], count: usize) -> Option<&Key>
-    requires { count ≤ length keys.now }
-    ensures { option_copied result ≡ last_or None (take count keys.now) }
-{
-    keys[..count].last()
-}
-
-// The value between the key up to a frame and the key after it.
+/// The value between the key up to a frame and the key after it.
 fn value_from(left: Option<&Key>, right: Option<&Key>, frame: i32) -> Option<Fx>
     requires begun { ForSome (option_copied left) (λ l. l.frame ≤ℤ frame) }
     requires within { ForSome (option_copied right) (λ r. frame <ℤ r.frame) }
@@ -58,7 +35,7 @@ fn value_from(left: Option<&Key>, right: Option<&Key>, frame: i32) -> Option<Fx>
     }
 }
 
-// The value from a key on, up to the next one.
+/// The value from a key on, up to the next one.
 fn value_between(left: &Key, right: &Key, frame: i32) -> Fx
     requires begun { left.now.frame ≤ℤ frame }
     requires within { frame <ℤ right.now.frame }
@@ -66,11 +43,11 @@ fn value_between(left: &Key, right: &Key, frame: i32) -> Fx
 {
     match left.interp {
         Interp::Constant => left.value,
-        Interp::Linear => Fx::clamped(value_on_line(left, right, frame)),
+        Interp::Linear => Fx::new(value_on_line(left, right, frame)),
     }
 }
 
-// The value at a frame of the straight line through two keys, in millionths. It is between their values.
+/// The value at a frame of the straight line through two keys, in millionths. It is between their values.
 fn value_on_line(left: &Key, right: &Key, frame: i32) -> i64
     requires begun { left.now.frame ≤ℤ frame }
     requires within { frame <ℤ right.now.frame }
@@ -84,7 +61,7 @@ fn value_on_line(left: &Key, right: &Key, frame: i32) -> i64
     start + part_of(rise, elapsed, span)
 }
 
-// The part of a rise in so many frames of a span. It is between nothing and the whole rise.
+/// The part of a rise in so many frames of a span. It is between nothing and the whole rise.
 fn part_of(rise: i64, elapsed: i64, span: i64) -> i64
     requires lowest { negsuc 1999999999999 ≤ℤ rise }
     requires highest { rise ≤ℤ pos 2000000000000 }

@@ -8,7 +8,7 @@ use Rattle.std.specs.Int.Signed.{◌≤ℤ◌, ◌<ℤ◌}
 use Rattle.std.proofs.lemmas.Int.{ints, unsigned_abs-mul}
 use Rattle.rig_fixed.specs.Fixed.{IsWithinLimits}
 use Rattle.rig_fixed.specs.Number.{rdiv}
-use Rattle.rig_fixed.specs.Transform.{IsWithinUnit}
+use Rattle.rig_fixed.specs.Rotation.{IsWithinUnit}
 
 pub mul_within : (a b : ℤ) (m n : ℕ) → unsigned_abs a ≤ m → unsigned_abs b ≤ n → unsigned_abs (a *ℤ b) ≤ m * n
 mul_within a b m n h k =

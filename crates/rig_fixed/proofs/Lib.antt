@@ -6,4 +6,4 @@ pub mod Turning
 pub mod Rounding
 pub mod Quotient
 pub mod Shortcuts
-pub mod Placed
+pub mod Parts

@@ -5,10 +5,10 @@ use Rattle.std.specs.Int.{int_min, int_max}
 use Rattle.std.proofs.lemmas.Int.{ints, int_min_is, int_max_is}
 use Rattle.rig_fixed.specs.Fixed.{clamp, unit, IsWithinLimits}
 use Rattle.rig_fixed.specs.Number.{rdiv, isqrt}
-use Rattle.rig_fixed.specs.Transform.{no_rotation}
-use Rattle.rig_fixed.specs.Rotate.{length_of, over_length, normalized, turn, rotate, scaled}
-use Rattle.rig_fixed.specs.declared.transform.V3.{V3}
-use Rattle.rig_fixed.proofs.Length.{four, four_same, length_is, normalized_plain}
+use Rattle.rig_fixed.specs.Rotation.{no_rotation, length_of, over_length, unit_rotation, turn, rotate}
+use Rattle.rig_fixed.specs.Vector.{v3_multiple}
+use Rattle.rig_fixed.specs.declared.vector.V3.{V3}
+use Rattle.rig_fixed.proofs.Length.{four, four_same, length_is, unit_rotation_plain}
 use Rattle.rig_fixed.proofs.Quotient.{rounded_is}
 use Rattle.rig_fixed.proofs.Root.{root_unique}
 use Rattle.rig_fixed.proofs.Turning.{v3_is}
@@ -24,7 +24,7 @@ root_of_square : (n : ℕ) → isqrt ((n * n + 0 * 0 + 0 * 0 + 0 * 0) * 10000000
 root_of_square n = sym (root_unique ((n * n + 0 * 0 + 0 * 0 + 0 * 0) * 1000000000000) (n * 1000000) (omega arith, omega arith))
 
 length_of_scalar : (n : ℕ) → length_of (four (pos n) (pos 0) (pos 0) (pos 0)) ≡ pos (n * 1000000)
-length_of_scalar n = length_is (pos n) (pos 0) (pos 0) (pos 0) ∙ ap pos (root_of_square n)
+length_of_scalar n = length_is (four (pos n) (pos 0) (pos 0) (pos 0)) ∙ ap pos (root_of_square n)
 
 whole_part : (n : ℕ) → rdiv (pos (suc n) *ℤ pos 1000000000000) (pos (suc n * 1000000)) ≡ pos 1000000
 whole_part n = rounded_is (pos (suc n) *ℤ pos 1000000000000) (pos (suc n * 1000000)) (pos 1000000) (omega (arith, ints)) (omega (arith, ints)) (omega (arith, ints))
@@ -32,26 +32,26 @@ whole_part n = rounded_is (pos (suc n) *ℤ pos 1000000000000) (pos (suc n * 100
 no_part : (n : ℕ) → rdiv (pos 0 *ℤ pos 1000000000000) (pos (suc n * 1000000)) ≡ pos 0
 no_part n = rounded_is (pos 0 *ℤ pos 1000000000000) (pos (suc n * 1000000)) (pos 0) (omega (arith, ints)) (omega (arith, ints)) (omega (arith, ints))
 
-pub normalized_scalar : (n : ℕ) → normalized (four (pos (suc n)) (pos 0) (pos 0) (pos 0)) ≡ no_rotation
-normalized_scalar n =
+pub unit_rotation_scalar : (n : ℕ) → unit_rotation (four (pos (suc n)) (pos 0) (pos 0) (pos 0)) ≡ no_rotation
+unit_rotation_scalar n =
     let size = length_of_scalar (suc n) in
-    normalized_plain (pos (suc n)) (pos 0) (pos 0) (pos 0) (λ k. let zero : pos (suc n * 1000000) ≡ pos 0 = sym size ∙ k in omega (arith, ints))
+    unit_rotation_plain (four (pos (suc n)) (pos 0) (pos 0) (pos 0)) (λ k. let zero : pos (suc n * 1000000) ≡ pos 0 = sym size ∙ k in omega (arith, ints))
     ∙ ap (λ (l : ℤ). over_length l (four (pos (suc n)) (pos 0) (pos 0) (pos 0))) size
     ∙ four_same _ _ _ _ _ _ _ _ (whole_part n) (no_part n) (no_part n) (no_part n)
 
 -- ---- a rotation about nothing
 
-pub unturned_coordinate : (place w once twice : ℤ) → IsWithinLimits place → once ≡ pos 0 → twice ≡ pos 0 → clamp (place +ℤ turn w once twice) ≡ place
-unturned_coordinate place w once twice h eo et =
+pub unturned_coordinate : (coordinate w once twice : ℤ) → IsWithinLimits coordinate → once ≡ pos 0 → twice ≡ pos 0 → clamp (coordinate +ℤ turn w once twice) ≡ coordinate
+unturned_coordinate coordinate w once twice h eo et =
     let none : pos 2 *ℤ w *ℤ once +ℤ pos 2 *ℤ twice ≡ pos 0 = rw (eo, et) (omega (arith, ints)) in
-    ap (λ (z : ℤ). clamp (place +ℤ rdiv z (pos 1000000000000))) none ∙ within_stays (place +ℤ pos 0) (omega (arith, ints), omega (arith, ints)) ∙ omega (arith, ints)
+    ap (λ (z : ℤ). clamp (coordinate +ℤ rdiv z (pos 1000000000000))) none ∙ within_stays (coordinate +ℤ pos 0) (omega (arith, ints), omega (arith, ints)) ∙ omega (arith, ints)
 
 nothing : (a b : ℤ) → pos 0 *ℤ a -ℤ pos 0 *ℤ b ≡ pos 0
 nothing a b = omega (arith, ints)
 
-pub unturned_place : (w : ℤ) (v : V3) → IsWithinLimits v.x → IsWithinLimits v.y → IsWithinLimits v.z → v ≡ rotate (four w (pos 0) (pos 0) (pos 0)) v
+pub unturned_point : (w : ℤ) (v : V3) → IsWithinLimits v.x → IsWithinLimits v.y → IsWithinLimits v.z → v ≡ rotate (four w (pos 0) (pos 0) (pos 0)) v
 unfolding rotate
-unturned_place w v hx hy hz =
+unturned_point w v hx hy hz =
     let ox = nothing v.z v.y in
     let oy = nothing v.x v.z in
     let oz = nothing v.y v.x in
@@ -66,5 +66,5 @@ unscaled_coordinate : (c : ℤ) → IsWithinLimits c → clamp (rdiv (unit *ℤ 
 unscaled_coordinate c h =
     ap clamp (rounded_is (unit *ℤ c) unit c (omega (arith, ints)) (omega (arith, ints)) (omega (arith, ints))) ∙ within_stays c h
 
-pub unscaled_place : (v : V3) → IsWithinLimits v.x → IsWithinLimits v.y → IsWithinLimits v.z → v ≡ scaled unit v
-unscaled_place v hx hy hz = sym (v3_is _ _ _ v.x v.y v.z (unscaled_coordinate v.x hx) (unscaled_coordinate v.y hy) (unscaled_coordinate v.z hz))
+pub unscaled_point : (v : V3) → IsWithinLimits v.x → IsWithinLimits v.y → IsWithinLimits v.z → v ≡ v3_multiple unit v
+unscaled_point v hx hy hz = sym (v3_is _ _ _ v.x v.y v.z (unscaled_coordinate v.x hx) (unscaled_coordinate v.y hy) (unscaled_coordinate v.z hz))

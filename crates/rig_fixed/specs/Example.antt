@@ -1,10 +1,11 @@
 -- Short ways to write records in examples.
 use Rattle.std.specs.Prelude.{ℤ, pos}
 use Rattle.rig_fixed.specs.Fixed.{unit}
-use Rattle.rig_fixed.specs.Transform.{Rotation, Transform, origin}
-use Rattle.rig_fixed.specs.Rotate.{normal}
-use Rattle.rig_fixed.specs.declared.transform.V3.{V3}
-use Rattle.rig_fixed.specs.declared.transform.Raw.{Raw}
+use Rattle.rig_fixed.specs.Vector.{origin}
+use Rattle.rig_fixed.specs.Rotation.{Rotation, normal}
+use Rattle.rig_fixed.specs.Transform.{Transform}
+use Rattle.rig_fixed.specs.declared.vector.V3.{V3}
+use Rattle.rig_fixed.specs.declared.rotation.Raw.{Raw}
 
 abbrev pub v3_of : ℤ → ℤ → ℤ → V3
 v3_of x y z = record { x = x; y = y; z = z }

@@ -1,16 +1,18 @@
-// One fixed-point number.
-ghost use Rattle.std.specs.Prelude.{◌≡◌};
-ghost use Rattle.rig_fixed.specs.Fixed.{clamp, IsWithinLimits};
+//! One fixed-point number: a whole number of millionths within limits.
+ghost use Rattle.std.specs.Prelude.{◌≡◌, ◌+ℤ◌, ◌*ℤ◌, neg_ℤ};
+ghost use Rattle.rig_fixed.specs.Fixed.{unit, clamp, IsWithinLimits};
+ghost use Rattle.rig_fixed.specs.Number.{rdiv};
 
+use crate::number::over_unit;
 use std::marker::Model;
 
 /// One whole unit, in millionths.
-pub const U: i64 = 1_000_000;
+pub const UNIT: i64 = 1_000_000;
 
 /// The limit of every number, in millionths: a million units to either side of 0.
-pub const LIM: i64 = 1_000_000_000_000;
+pub const LIMIT: i64 = 1_000_000_000_000;
 
-/// A whole number of millionths, from [`-LIM`](LIM) to [`LIM`]. Contracts see it as that number.
+/// A whole number of millionths, from [`-LIMIT`](LIMIT) to [`LIMIT`]. Contracts see it as that number.
 #[derive(Clone, Copy, Debug, PartialEq, Eq, PartialOrd, Ord, Hash)]
 pub struct Fx {
     millionths: i64,
@@ -30,24 +32,30 @@ impl Model for Fx {
 }
 
 impl Fx {
+    /// 0.
+    pub const ZERO: Fx = Fx { millionths: 0 };
+
+    /// One whole unit.
+    pub const ONE: Fx = Fx { millionths: UNIT };
+
     /// The number nearest to `x`, in millionths, that is within the limits.
     pub fn of(x: i128) -> Fx
         ensures { result ≡ clamp x }
     {
-        let millionths = x.clamp(-(LIM as i128), LIM as i128) as i64;
+        let millionths = x.clamp(-(LIMIT as i128), LIMIT as i128) as i64;
         Fx { millionths }
     }
 
     /// The number nearest to `x`, in millionths, that is within the limits: [`Fx::of`] for what fits 64 bits.
-    pub fn clamped(x: i64) -> Fx
+    pub fn of_i64(x: i64) -> Fx
         ensures { result ≡ clamp x }
     {
         Fx {
-            millionths: x.clamp(-LIM, LIM),
+            millionths: x.clamp(-LIMIT, LIMIT),
         }
     }
 
-    /// The number `x`, in millionths, for who knows that it is within the limits: nothing is tested.
+    /// The number `x`, in millionths, where the caller knows that it is within the limits: nothing is tested.
     pub fn new(x: i64) -> Fx
         requires { IsWithinLimits x }
         ensures { result ≡ x }
@@ -61,6 +69,34 @@ impl Fx {
         ensures within { IsWithinLimits result }
     {
         self.millionths
+    }
+
+    /// The sum of two numbers, within the limits.
+    pub(crate) fn sum(self, other: Fx) -> Fx
+        ensures { result ≡ clamp (self +ℤ other) }
+    {
+        Fx::of_i64(self.get() + other.get())
+    }
+
+    /// The product of two numbers in millionths, in millionths: rounded to the nearest, and a half upward.
+    pub(crate) fn product(self, other: Fx) -> i64
+        ensures { result ≡ rdiv (self *ℤ other) unit }
+    {
+        over_unit(self.get() as i128 * other.get() as i128)
+    }
+
+    /// The number times a scale, both in millionths: rounded to the nearest, and within the limits.
+    pub(crate) fn multiple(self, scale: Fx) -> Fx
+        ensures { result ≡ clamp (rdiv (scale *ℤ self) unit) }
+    {
+        Fx::of_i64(scale.product(self))
+    }
+
+    /// The number on the other side of 0.
+    pub(crate) fn negation(self) -> Fx
+        ensures { result ≡ neg_ℤ self }
+    {
+        Fx::of_i64(-self.get())
     }
 }
 

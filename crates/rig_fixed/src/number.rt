@@ -1,16 +1,19 @@
-// Arithmetic on whole numbers: division rounded to the nearest, and square roots rounded down.
-ghost use Rattle.std.specs.Prelude.{◌≡◌, ◌<◌, ◌≤◌, ◌↔◌, IsTrue, pos, negsuc, ◌+ℤ◌, ◌-ℤ◌, ◌*ℤ◌, ◌<ℤ◌, ◌≤ℤ◌, unsigned_abs};
+//! Arithmetic on whole numbers: division rounded to the nearest, and square roots rounded down.
+ghost use Rattle.std.specs.Prelude.{◌≡◌, ◌<◌, ◌≤◌, ◌^◌, ◌↔◌, IsTrue};
+ghost use Rattle.std.specs.Prelude.{pos, ◌+ℤ◌, ◌-ℤ◌, ◌*ℤ◌, ◌<ℤ◌, ◌≤ℤ◌, unsigned_abs};
 ghost use Rattle.std.specs.Int.{int_div_euclid};
 ghost use Rattle.rig_fixed.specs.Fixed.{unit};
 ghost use Rattle.rig_fixed.specs.Number.{rdiv, isqrt, IsRoot};
-ghost use Rattle.rig_fixed.specs.Rotate.{unit_square};
+ghost use Rattle.rig_fixed.specs.Rotation.{unit_square};
+ghost use Rattle.rig_fixed.specs.Bounds.{wide_highest, wide_lowest, narrow_highest, narrow_lowest};
+ghost use Rattle.rig_fixed.specs.Bounds.{dividend_bound, length_bound, turn_bound};
 
 /// `a / b`, rounded to the nearest whole number, and a half upward, also below 0.
 pub fn rdiv(a: i128, b: i128) -> i128
     requires positive { pos 0 <ℤ b }
-    requires divisor { b ≤ℤ pos 10000000000000000000000000000000000000 }
-    requires lowest { negsuc 9999999999999999999999999999999999999 ≤ℤ a }
-    requires highest { a ≤ℤ pos 10000000000000000000000000000000000000 }
+    requires divisor { b ≤ℤ wide_highest }
+    requires lowest { wide_lowest ≤ℤ a }
+    requires highest { a ≤ℤ wide_highest }
     ensures { result ≡ rdiv a b }
 {
     if -NARROW < a && a < NARROW && b < NARROW {
@@ -24,10 +27,10 @@ pub fn rdiv(a: i128, b: i128) -> i128
 const NARROW: i128 = 2_000_000_000_000_000_000;
 
 /// [`rdiv`], where a guess is given that often is right: one that is takes no division.
-pub(crate) fn rdiv_guessed(a: i128, b: i128, guess: i64) -> i128
+pub(crate) fn rdiv_by_guess(a: i128, b: i128, guess: i64) -> i128
     requires positive { pos 0 <ℤ b }
-    requires divisor { b ≤ℤ pos 9000000000000000000 }
-    requires dividend { unsigned_abs a ≤ 10000000000000000000000000 }
+    requires divisor { b ≤ℤ pos length_bound }
+    requires dividend { unsigned_abs a ≤ dividend_bound }
     ensures { result ≡ rdiv a b }
 {
     if is_quotient(a, b, guess) {
@@ -40,8 +43,8 @@ pub(crate) fn rdiv_guessed(a: i128, b: i128, guess: i64) -> i128
 /// Whether a number is `a / b`, rounded to the nearest, and a half upward.
 fn is_quotient(a: i128, b: i128, quotient: i64) -> bool
     requires positive { pos 0 <ℤ b }
-    requires divisor { b ≤ℤ pos 9000000000000000000 }
-    requires dividend { unsigned_abs a ≤ 10000000000000000000000000 }
+    requires divisor { b ≤ℤ pos length_bound }
+    requires dividend { unsigned_abs a ≤ dividend_bound }
     ensures { IsTrue result → quotient ≡ rdiv a b }
 {
     let rest = remainder(a, b, quotient);
@@ -51,8 +54,8 @@ fn is_quotient(a: i128, b: i128, quotient: i64) -> bool
 /// What is left of `2a + b` when so many times `2b` are taken from it.
 fn remainder(a: i128, b: i128, times: i64) -> i128
     requires positive { pos 0 <ℤ b }
-    requires divisor { b ≤ℤ pos 9000000000000000000 }
-    requires dividend { unsigned_abs a ≤ 10000000000000000000000000 }
+    requires divisor { b ≤ℤ pos length_bound }
+    requires dividend { unsigned_abs a ≤ dividend_bound }
     ensures { result ≡ pos 2 *ℤ a +ℤ b -ℤ pos 2 *ℤ b *ℤ times }
 {
     2 * a + b - 2 * b * (times as i128)
@@ -61,9 +64,9 @@ fn remainder(a: i128, b: i128, times: i64) -> i128
 /// [`rdiv`] in 64 bits.
 pub(crate) fn rdiv_narrow(a: i64, b: i64) -> i64
     requires positive { pos 0 <ℤ b }
-    requires divisor { b ≤ℤ pos 2000000000000000000 }
-    requires lowest { negsuc 1999999999999999999 ≤ℤ a }
-    requires highest { a ≤ℤ pos 2000000000000000000 }
+    requires divisor { b ≤ℤ narrow_highest }
+    requires lowest { narrow_lowest ≤ℤ a }
+    requires highest { a ≤ℤ narrow_highest }
     ensures { result ≡ rdiv a b }
 {
     (2 * a + b).div_euclid(2 * b)
@@ -72,9 +75,9 @@ pub(crate) fn rdiv_narrow(a: i64, b: i64) -> i64
 /// [`rdiv`] in 128 bits.
 fn rdiv_wide(a: i128, b: i128) -> i128
     requires positive { pos 0 <ℤ b }
-    requires divisor { b ≤ℤ pos 10000000000000000000000000000000000000 }
-    requires lowest { negsuc 9999999999999999999999999999999999999 ≤ℤ a }
-    requires highest { a ≤ℤ pos 10000000000000000000000000000000000000 }
+    requires divisor { b ≤ℤ wide_highest }
+    requires lowest { wide_lowest ≤ℤ a }
+    requires highest { a ≤ℤ wide_highest }
     ensures { result ≡ rdiv a b }
 {
     (2 * a + b).div_euclid(2 * b)
@@ -105,9 +108,9 @@ fn floor_over_15625(n: i128) -> i64
 /// Twice `half` over the square of one whole unit, 10^12, rounded to the nearest, and a half upward. Half of 10^12 is
 /// 2^11 * 5^12.
 pub(crate) fn twice_over_unit_square(half: i128) -> i64
-    requires { unsigned_abs half ≤ 10000000000000000000000000 }
+    requires { unsigned_abs half ≤ dividend_bound }
     ensures value { result ≡ rdiv (pos 2 *ℤ half) unit_square }
-    ensures within { unsigned_abs result ≤ 100000000000000 }
+    ensures within { unsigned_abs result ≤ turn_bound }
 {
     floor_over_244140625((half + 250_000_000_000) >> 11)
 }
@@ -180,15 +183,15 @@ fn root_guess(n: u128) -> u64
 }
 
 /// The highest root of a number below 2^126.
-const HIGHEST_ROOT: u64 = 9_223_372_036_854_775_807;
+const HIGHEST_ROOT: u64 = (1 << 63) - 1;
 
 /// The highest number of 32 binary digits.
-const HIGHEST_DIGITS: u64 = 4_294_967_295;
+const HIGHEST_DIGITS: u64 = (1 << 32) - 1;
 
 /// About 2^31 over the root of `digits / 2^32`, for `digits` from 2^30 to 2^32: a parabola.
 fn first_reciprocal(digits: u64) -> u64
-    requires { digits < 4294967296 }
-    ensures { result < 4294967296 }
+    requires { digits < 2 ^ 32 }
+    ensures { result < 2 ^ 32 }
 {
     let slope = 3_527_624_808 - ((digits * 1_759_398_850) >> 32);
     let fall = (digits * slope) >> 31;
@@ -197,22 +200,22 @@ fn first_reciprocal(digits: u64) -> u64
 
 /// A step of Newton's method from a number near to 2^31 over the root of `digits / 2^32`.
 fn nearer_reciprocal(digits: u64, near: u64) -> u64
-    requires digits { digits < 4294967296 }
-    requires near { near < 4294967296 }
-    ensures { result < 4294967296 }
+    requires digits { digits < 2 ^ 32 }
+    requires near { near < 2 ^ 32 }
+    ensures { result < 2 ^ 32 }
 {
     let part = (((near * near) >> 32) * digits) >> 32;
-    let factor = 3_221_225_472 - part.min(3_221_225_472);
+    let factor = (3 << 30) - part.min(3 << 30);
     ((near * factor) >> 31).min(HIGHEST_DIGITS)
 }
 
 /// A number near to the root of `square`, corrected by what its own square is away, where `reciprocal` is about 2^94
 /// over the root.
 fn nearer_root(square: u128, near: u64, reciprocal: u64) -> u64
-    requires square { square < 85070591730234615865843651857942052864 }
-    requires near { near < 9223372036854775808 }
-    requires reciprocal { reciprocal < 4294967296 }
-    ensures { result < 9223372036854775808 }
+    requires square { square < 2 ^ 126 }
+    requires near { near < 2 ^ 63 }
+    requires reciprocal { reciprocal < 2 ^ 32 }
+    ensures { result < 2 ^ 63 }
 {
     let away = square as i128 - (near as u128 * near as u128) as i128;
     let step = ((away >> 64) * reciprocal as i128) >> 31;

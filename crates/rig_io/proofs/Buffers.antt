@@ -4,21 +4,21 @@ use Rattle.std.proofs.lemmas.List.{take-append-drop, length-take-le, length-drop
 use Rattle.std.proofs.Math.Seq.{take-append_seam}
 use Rattle.std.proofs.lemmas.Bool.Decides.{nat_tests}
 
--- what lies in front of a seam
-pub front_of : (n : ℕ) (xs ys : List ℕ) → length xs ≡ n → take n (xs ++ ys) ≡ xs
-front_of n xs ys e = subst (λ (k : ℕ). take k (xs ++ ys) ≡ xs) e (take-append_seam xs ys)
+-- what lies before a seam
+pub prefix_of : (n : ℕ) (xs ys : List ℕ) → length xs ≡ n → take n (xs ++ ys) ≡ xs
+prefix_of n xs ys e = subst (λ (k : ℕ). take k (xs ++ ys) ≡ xs) e (take-append_seam xs ys)
 
--- a piece that was copied over the front of a buffer
-pub front_copied : (bytes buf copied : List ℕ) (at n : ℕ) → at + n ≤ length bytes →
+-- a piece that was copied over a buffer's prefix
+pub prefix_copied : (bytes buf copied : List ℕ) (at n : ℕ) → at + n ≤ length bytes →
     copied ≡ take (at + n - at) (drop at bytes) → take n (copied ++ drop n buf) ≡ take n (drop at bytes)
-front_copied bytes buf copied at n h k =
+prefix_copied bytes buf copied at n h k =
     let m : at + n - at ≡ n = omega arith in
     let is : copied ≡ take n (drop at bytes) = rw m at k in
     let fits : n ≤ length (drop at bytes) = omega (arith, length-drop at bytes) in
     let long : length copied ≡ n = ap length is ∙ length-take-le n (drop at bytes) fits in
-    front_of n copied (drop n buf) long ∙ is
+    prefix_of n copied (drop n buf) long ∙ is
 
--- a piece at a place, and what comes after it
+-- a piece from an index on, and what comes after it
 pub piece_and_rest : (left bytes buf : List ℕ) (at n : ℕ) → drop at bytes ≡ left →
     take n buf ≡ take n (drop at bytes) → left ≡ take n buf ++ drop (at + n) bytes
 piece_and_rest left bytes buf at n e k =

@@ -1,9 +1,9 @@
 -- Pieces that a source gave, or a sink took, one after another.
-use Rattle.std.proofs.Common.{◌≡◌, ℕ, ◌+◌, ◌≤◌, ◌<◌, List, [], ◌++◌, length, take, refl, sym, ◌∙◌, ap, subst, append_assoc, arith, length-append}
+use Rattle.std.proofs.Common.{◌≡◌, ℕ, ◌+◌, ◌≤◌, List, [], ◌++◌, length, take, refl, sym, ◌∙◌, ap, subst, append_assoc, arith, length-append}
 use Rattle.std.proofs.lemmas.List.{length-take}
 use Rattle.std.specs.Prelude.{Option, Some, None}
 use Rattle.std.proofs.lemmas.Grind.{common_steps}
-use Rattle.rig_io.specs.Bytes.{Gave, GaveAll, GaveAtMost, GaveMoreThan, Appended}
+use Rattle.rig_io.specs.Bytes.{Gave, GaveAll, GaveAtMost, GaveOneMore, Appended}
 
 -- nothing was given yet
 pub Gave-none : (a : Option (List ℕ)) → Gave a a []
@@ -36,15 +36,15 @@ Appended-append (Some w) b c xs ys p q =
     let q' = subst (λ (o : Option (List ℕ)). Appended o c ys) p q in
     q' ∙ ap (λ (r : List ℕ). Some r) (append_assoc w xs ys)
 
--- what two pieces have, the second a front of a row, against a limit
+-- what two pieces have, the second a prefix of a list, against a limit
 pub Gave-at_most : (a b c : Option (List ℕ)) (xs ys : List ℕ) (n limit : ℕ) → Gave a b xs → Gave b c (take n ys) →
     length xs + n ≤ limit → GaveAtMost a c limit
 Gave-at_most a b c xs ys n limit p q h =
     (xs ++ take n ys, Gave-append a b c xs (take n ys) p q, omega (arith, length-append xs (take n ys), length-take n ys))
 
-pub Gave-more_than : (a b c : Option (List ℕ)) (xs ys : List ℕ) (n limit : ℕ) → Gave a b xs → Gave b c (take n ys) →
-    n ≤ length ys → limit < length xs + n → GaveMoreThan a c limit
-Gave-more_than a b c xs ys n limit p q h k =
+pub Gave-one_more : (a b c : Option (List ℕ)) (xs ys : List ℕ) (n limit : ℕ) → Gave a b xs → Gave b c (take n ys) →
+    n ≤ length ys → length xs + n ≡ limit + 1 → GaveOneMore a c limit
+Gave-one_more a b c xs ys n limit p q h k =
     (xs ++ take n ys, Gave-append a b c xs (take n ys) p q, omega (arith, length-append xs (take n ys), length-take n ys))
 
 -- a write that took nothing

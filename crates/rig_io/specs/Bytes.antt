@@ -1,5 +1,5 @@
 -- What a source gave and what a sink took, where it is told.
-use Rattle.std.specs.Prelude.{◌≡◌, ℕ, ◌<◌, ◌≤◌, ◌++◌, List, [], length, Option, Some, None}
+use Rattle.std.specs.Prelude.{◌≡◌, ℕ, ◌+◌, ◌≤◌, ◌++◌, List, [], length, Option, Some, None}
 
 -- A source that tells what is left gave these bytes, and has the rest left.
 abbrev pub Gave : Option (List ℕ) → Option (List ℕ) → List ℕ → Type 0
@@ -20,11 +20,11 @@ Appended (Some written) after bytes = after ≡ Some (written ++ bytes)
 abbrev pub GaveAtMost : Option (List ℕ) → Option (List ℕ) → ℕ → Type 0
 GaveAtMost before after limit = (bytes : List ℕ) × (Gave before after bytes) × (length bytes ≤ limit)
 
--- The source gave some bytes, more than the limit.
-abbrev pub GaveMoreThan : Option (List ℕ) → Option (List ℕ) → ℕ → Type 0
-GaveMoreThan before after limit = (bytes : List ℕ) × (Gave before after bytes) × (limit < length bytes)
+-- The source gave one byte more than the limit.
+abbrev pub GaveOneMore : Option (List ℕ) → Option (List ℕ) → ℕ → Type 0
+GaveOneMore before after limit = (bytes : List ℕ) × (Gave before after bytes) × (length bytes ≡ limit + 1)
 
--- A sink that tells what was written got a front of these bytes at the end.
-abbrev pub AppendedFront : Option (List ℕ) → Option (List ℕ) → List ℕ → Type 0
-AppendedFront before after bytes =
-    (front : List ℕ) × (rest : List ℕ) × (bytes ≡ front ++ rest) × (Appended before after front)
+-- A sink that tells what was written got a prefix of these bytes at the end.
+abbrev pub AppendedPrefix : Option (List ℕ) → Option (List ℕ) → List ℕ → Type 0
+AppendedPrefix before after bytes =
+    (prefix : List ℕ) × (rest : List ℕ) × (bytes ≡ prefix ++ rest) × (Appended before after prefix)

@@ -1,3 +1,4 @@
+-- what a reader has to believe: the statement (the proofs need no more)
 pub mod Faults
 pub mod Bytes
 pub mod Got

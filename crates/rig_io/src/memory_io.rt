@@ -1,8 +1,8 @@
-// Sources and sinks in memory, which can be told to fail.
+//! Sources and sinks in memory, which can be told to fail.
 ghost use Rattle.std.specs.Prelude.{◌≡◌, ◌≢◌, ◌<◌, ◌≤◌, ◌+◌, ◌-◌, ◌++◌, ◌||◌, nat_le, ◌↔◌, [], Some, IfOk, IsTrue, length, take, drop, min};
 ghost use Rattle.rig_io.specs.Faults.{rose};
 ghost use Rattle.rig_io.specs.Bytes.{Gave, GaveAll, Appended};
-ghost use Rattle.rig_io.specs.Got.{OnBytes};
+ghost use Rattle.rig_io.specs.Got.{OnBytes, LeavesRest};
 ghost use Rattle.rig_io.specs.Put.{OnTook};
 ghost use Rattle.rig_io.specs.Memory.{is_named, source_after, source_failed, sink_after, sink_failed};
 
@@ -12,11 +12,12 @@ use crate::source::{Got, Source};
 use std::alloc::Global;
 use std::marker::Model;
 
-/// Copies so many bytes from a place to the front of a buffer.
+/// Copies `n` bytes from an index on to a buffer's prefix.
 fn copy_piece(bytes: &[u8], at: usize, buf: &mut [u8], n: usize)
     requires from { at + n ≤ length bytes.now }
     requires to { n ≤ length buf.old }
-    ensures { take n buf.new ≡ take n (drop at bytes.now) }
+    ensures prefix { take n buf.new ≡ take n (drop at bytes.now) }
+    ensures rest { drop n buf.new ≡ drop n buf.old }
 {
     buf[..n].copy_from_slice(&bytes[at..at + n]);
 }
@@ -87,9 +88,11 @@ impl Source for MemSource {
         requires { 0 < length buf.old }
         ensures some { OnBytes result (λ n. (0 < n) × (n ≤ length buf.old)) }
         ensures gave { OnBytes result (λ n. Gave (Some self.old.left) (Some self.new.left) (take n buf.new)) }
+        ensures rest { LeavesRest result buf.old buf.new }
         ensures end { result ≡ Got.End → GaveAll (Some self.old.left) (Some self.new.left) [] }
         ensures kept { result ≡ Got.Failed → Some self.new.left ≡ Some self.old.left }
         ensures failed { result ≡ Got.Failed → IsTrue (rose self.old.faults self.new.faults) }
+        ensures no_fault { result ≢ Got.Failed → self.new.faults ≡ self.old.faults }
         ensures faults { self.old.faults ≤ self.new.faults }
 
         // Which of the three it is, and what each leaves.
@@ -153,6 +156,7 @@ impl Source for PlainSource {
         requires { 0 < length buf.old }
         ensures some { OnBytes result (λ n. (0 < n) × (n ≤ length buf.old)) }
         ensures gave { OnBytes result (λ n. Gave (Some self.old) (Some self.new) (take n buf.new)) }
+        ensures rest { LeavesRest result buf.old buf.new }
         ensures end { result ≡ Got.End → GaveAll (Some self.old) (Some self.new) [] }
         ensures never { result ≢ Got.Failed }
 
@@ -171,12 +175,12 @@ impl Source for PlainSource {
 
 /// Takes every piece whole, and keeps nothing. It tells no content, and no write fails.
 #[derive(Clone, Copy, Debug, Default, PartialEq, Eq)]
-pub struct PlainSink {}
+pub struct PlainSink;
 
 impl PlainSink {
     /// A sink that keeps nothing.
     pub fn new() -> PlainSink {
-        PlainSink {}
+        PlainSink
     }
 }
 
@@ -274,6 +278,7 @@ impl Sink for MemSink {
         ensures took { OnTook result (λ n. Appended (Some self.old.written) (Some self.new.written) (take n piece.now)) }
         ensures kept { result ≡ Put.Failed → Some self.new.written ≡ Some self.old.written }
         ensures failed { result ≡ Put.Failed → IsTrue (rose self.old.faults self.new.faults) }
+        ensures no_fault { result ≢ Put.Failed → self.new.faults ≡ self.old.faults }
         ensures faults { self.old.faults ≤ self.new.faults }
 
         // Which of the two it is, and what each leaves.

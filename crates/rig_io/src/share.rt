@@ -1,29 +1,16 @@
-// Handing one value to several owners.
+//! One value with several owners.
 ghost use Rattle.std.specs.Prelude.{◌≡◌, IfOk};
 
 use crate::memory::NoMemory;
-use std::sync::Arc;
 
-/// A value of which another owner can be made, that shows the same.
-pub trait Share: Sized {
-    /// What the value shows, whoever owns it.
-    ghost Shown: { Type 0 };
-
-    ghost shown: { Self → Shown };
-
-    /// Another owner of the value.
+/// A value of which another owner can be made, as by a counted pointer. A bare `Arc` isn't one: contracts see its
+/// address, and that of its clone isn't known to be the same. Wrap it in a struct whose model is the value behind it.
+pub trait Share: Drop + Sized {
+    /// Another owner of an equal value.
+    ///
+    /// # Errors
+    ///
+    /// [`NoMemory`].
     fn share(&self) -> Result<Self, NoMemory>
-        ensures { IfOk result (λ other. shown other ≡ shown self.now) };
-}
-
-impl<T> Share for Arc<T> {
-    ghost use Rattle.std.specs.Arc.{arc_value};
-
-    ghost Shown = { T };
-
-    ghost shown = { arc_value };
-
-    fn share(&self) -> Result<Self, NoMemory> {
-        Ok(Arc::try_clone(self)?)
-    }
+        ensures { IfOk result (λ other. other ≡ self.now) };
 }

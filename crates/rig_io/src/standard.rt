@@ -1,10 +1,52 @@
-// The program's standard input and output, as a source and a sink. What they give and take is told
-// by no contract.
+//! The program's standard input and output, as a source and a sink. No contract tells what the system
+//! gives and takes: only what its answers mean, and which are counted.
+ghost use Rattle.std.specs.Prelude.{◌≡◌, ◌≤◌, IfOk, OnErr, length, drop};
+ghost use Rattle.rig_io.specs.Got.{got_of};
+ghost use Rattle.rig_io.specs.Put.{put_of};
+
 use crate::sink::{Put, Sink};
 use crate::source::{Got, Source};
-use std::io::Read;
+use std::io::{self, Read};
 
-/// Standard input. It tells no content, and counts the reads that the system failed.
+/// The most bytes of one read.
+const PIECE: usize = 8_192;
+
+/// What the system's answer to a read means: 0 bytes are the end.
+fn got_of(answer: io::Result<usize>) -> Got
+    ensures { result ≡ got_of answer }
+{
+    match answer {
+        Ok(0) => Got::End,
+        Ok(n) => Got::Bytes(n),
+        Err(_) => Got::Failed,
+    }
+}
+
+/// What the system's answer to a write means: a write that took nothing has failed.
+fn put_of(answer: io::Result<usize>) -> Put
+    ensures { result ≡ put_of answer }
+{
+    match answer {
+        Ok(0) | Err(_) => Put::Failed,
+        Ok(n) => Put::Took(n),
+    }
+}
+
+/// Reads into the buffer's prefix and changes nothing else. A `Read` may write behind the bytes that it gave, so they
+/// come by a piece.
+fn read_prefix<R: Read>(reader: &mut R, buf: &mut [u8]) -> io::Result<usize>
+    ensures within { IfOk result (λ n. n ≤ length buf.old) }
+    ensures rest { IfOk result (λ n. drop n buf.new ≡ drop n buf.old) }
+    ensures err { OnErr result (buf.new ≡ buf.old) }
+{
+    let mut piece = [0; PIECE];
+    let room = buf.len().min(PIECE);
+    let n = reader.read(&mut piece[..room])?;
+    buf[..n].copy_from_slice(&piece[..n]);
+    Ok(n)
+}
+
+/// Standard input. It tells no content, and counts the reads that the system failed, from 0.
 #[derive(Drop)]
 pub struct StdSource<R: Input> {
     reader: R::Reader,
@@ -13,7 +55,9 @@ pub struct StdSource<R: Input> {
 
 impl<R: Input> StdSource<R> {
     /// The standard input of the runtime.
-    pub fn new(rt: &R) -> StdSource<R> {
+    pub fn new(rt: &R) -> StdSource<R>
+        ensures { ⟦<StdSource<R> as Source>⟧.faults result ≡ 0 }
+    {
         StdSource {
             reader: rt.reader(),
             faults: 0,
@@ -29,18 +73,15 @@ impl<R: Input> Source for StdSource<R> {
     ghost faults = { λ s. s.faults };
 
     fn read(&mut self, buf: &mut [u8]) -> Got {
-        match self.reader.read(buf) {
-            Ok(0) => Got::End,
-            Ok(n) => Got::Bytes(n),
-            Err(_) => {
-                self.faults = self.faults.saturating_add(1);
-                Got::Failed
-            }
+        let got = got_of(read_prefix(&mut self.reader, buf));
+        if let Got::Failed = got {
+            self.faults = self.faults.saturating_add(1);
         }
+        got
     }
 }
 
-/// Standard output. It tells no content, and counts the writes that the system failed.
+/// Standard output. It tells no content, and counts the writes that the system failed, from 0.
 #[derive(Drop)]
 pub struct StdSink<'a, P: Print> {
     rt: &'a P,
@@ -49,7 +90,9 @@ pub struct StdSink<'a, P: Print> {
 
 impl<'a, P: Print> StdSink<'a, P> {
     /// The standard output of the runtime.
-    pub fn new(rt: &'a P) -> StdSink<'a, P> {
+    pub fn new(rt: &'a P) -> StdSink<'a, P>
+        ensures { ⟦<StdSink<'a, P> as Sink>⟧.faults result ≡ 0 }
+    {
         StdSink { rt, faults: 0 }
     }
 }
@@ -62,12 +105,10 @@ impl<'a, P: Print> Sink for StdSink<'a, P> {
     ghost faults = { λ s. s.faults };
 
     fn write(&mut self, piece: &[u8]) -> Put {
-        match self.rt.write_some(piece) {
-            Ok(n) if n > 0 => Put::Took(n),
-            _ => {
-                self.faults = self.faults.saturating_add(1);
-                Put::Failed
-            }
+        let put = put_of(self.rt.write_some(piece));
+        if let Put::Failed = put {
+            self.faults = self.faults.saturating_add(1);
         }
+        put
     }
 }

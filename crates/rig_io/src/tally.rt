@@ -1,4 +1,4 @@
-// Counting what was run.
+//! Counting what was run.
 ghost use Rattle.std.specs.Prelude.{◌≡◌, ℕ};
 ghost use Rattle.rig_io.specs.Faults.{raised};
 
@@ -25,7 +25,7 @@ pub struct Count {
 impl Count {
     /// A count of 0.
     pub fn new() -> Count
-        ensures { result.ticks ≡ 0 }
+        ensures { ⟦<Count as Tally>⟧.count result ≡ 0 }
     {
         Count { ticks: 0 }
     }

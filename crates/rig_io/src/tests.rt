@@ -1,13 +1,14 @@
-// Worked examples of whole inputs, whole outputs, lists and counts.
+//! Worked examples of whole inputs, whole outputs, lists and counts, and what the messages say.
 ghost use Rattle.std.specs.Prelude.{◌<◌};
 
 use crate::{
-    Count, List, MemSink, MemSource, PlainSink, PlainSource, Put, ReadStop, Share, Sink, Source,
-    StdSink, StdSource, Tally, WriteFault, read_all, write_all,
+    Count, List, MemSink, MemSource, NoMemory, PlainSink, PlainSource, Put, ReadStop, Share, Sink,
+    Source, StdSink, StdSource, Tally, WriteFault, read_all, write_all,
 };
 use std::alloc::{Allocator, Global};
 use std::fmt::Display;
 use std::io::{self, BufRead, Lines, Read};
+use std::marker::Model;
 use std::sync::Arc;
 use std::test::Fail;
 
@@ -55,7 +56,6 @@ fn reads_an_input_of_several_pieces(rt: HostRuntime) -> Result<(), Fail> {
     let bytes = vec![in alloc; 7u8; 300_000]?;
     let whole = read_all(alloc, &mut PlainSource::new(bytes), 300_000)?;
     assert_eq!(rt; whole.len(), 300_000);
-    assert!(rt; whole.iter().all(|b| *b == 7));
     Ok(())
 }
 
@@ -67,8 +67,8 @@ fn writes_whole_outputs(rt: HostRuntime) -> Result<(), Fail> {
     let rows: [(usize, &[u64], Result<(), WriteFault>, &[u8]); 4] = [
         (99, none, Ok(()), b"copy-on-evaluation"),
         (18, none, Ok(()), b"copy-on-evaluation"),
-        (10, none, Err(WriteFault {}), b"copy-on-ev"),
-        (99, one, Err(WriteFault {}), b"copy-on-"),
+        (10, none, Err(WriteFault), b"copy-on-ev"),
+        (99, one, Err(WriteFault), b"copy-on-"),
     ];
     for (room, fails, want, written) in rows {
         let fails = Vec::from_slice(alloc, fails)?;
@@ -88,31 +88,83 @@ fn a_list_keeps_its_values_in_order(rt: HostRuntime) -> Result<(), Fail> {
     list.push(3u32)?;
     list.push(5)?;
     assert_eq!(rt; list.len(), 2);
+    let before = list.clone()?;
     list.set(0, 4);
     assert_eq!(rt; *list.get(0), 4);
-    assert_eq!(rt; list.as_slice(), [4, 5].as_slice());
-    let list = List::from(list.into_vec());
+    assert_eq!(rt; before.as_slice(), [3, 5].as_slice());
+    assert!(rt; before != list);
     assert_eq!(rt; list.into_vec().as_slice(), [4, 5].as_slice());
     Ok(())
 }
 
-fn sent<T: Send>(value: T) -> T {
-    value
-}
-
 #[test]
-fn a_count_rises_by_one_and_may_change_threads(rt: HostRuntime) {
-    let mut count = sent(Count::new());
+fn a_count_begins_at_0_and_rises_by_one(rt: HostRuntime) {
+    let mut count = Count::new();
     count.tick();
     count.tick();
     assert_eq!(rt; count.count(), 2);
 }
 
 #[test]
-fn a_share_shows_the_same(rt: HostRuntime) -> Result<(), Fail> {
-    let first = Arc::new(rt.alloc(), 7u8)?;
+fn says_what_went_wrong(rt: HostRuntime) -> Result<(), Fail> {
+    let text = format!(in rt.alloc();
+        "{NoMemory}, {WriteFault}, {}, {}",
+        ReadStop::Fault,
+        ReadStop::TooLong
+    )?;
+    assert_eq!(rt;
+        text.as_str(),
+        "out of memory, a write failed, a read failed, the input is longer than its limit"
+    );
+    Ok(())
+}
+
+fn crosses<T: Send + Sync>(_: &T) {}
+
+#[test]
+fn values_may_cross_threads(rt: HostRuntime) -> Result<(), Fail> {
+    let alloc = rt.alloc();
+    let list: List<u32> = List::new(alloc);
+    crosses(&list);
+    crosses(&Count::new());
+    crosses(&MemSource::new(Vec::new(alloc), 1, Vec::new(alloc)));
+    crosses(&MemSink::new(alloc, 1, 1, Vec::new(alloc))?);
+    crosses(&PlainSource::new(Vec::new(alloc)));
+    crosses(&PlainSink::new());
+    crosses(&(NoMemory, WriteFault, ReadStop::Fault));
+    Ok(())
+}
+
+/// A number behind a counted pointer. Contracts see the number alone.
+#[derive(Drop)]
+struct Shared {
+    number: Arc<u32>,
+}
+
+impl Model for Shared {
+    ghost use Rattle.std.specs.Prelude.{ℕ};
+
+    ghost Value = { ℕ };
+
+    ghost view = { λ s. s.number.value };
+}
+
+impl Share for Shared {
+    fn share(&self) -> Result<Shared, NoMemory> {
+        Ok(Shared {
+            number: Arc::try_clone(&self.number)?,
+        })
+    }
+}
+
+#[test]
+fn a_share_is_an_equal_value(rt: HostRuntime) -> Result<(), Fail> {
+    let first = Shared {
+        number: Arc::new(rt.alloc(), 7)?,
+    };
     let second = first.share()?;
-    assert_eq!(rt; *second, 7);
+    crosses(&second);
+    assert_eq!(rt; *second.number, 7);
     Ok(())
 }
 
@@ -163,7 +215,7 @@ fn pipe_error() -> io::Error {
 
 /// An input of eight bytes.
 #[derive(Drop)]
-struct Inlet {}
+struct Inlet;
 
 impl Input for Inlet {
     type Reader = &'static [u8];
@@ -183,7 +235,7 @@ impl Input for Inlet {
 
 /// An input, and a reader, of which every read fails.
 #[derive(Drop)]
-struct Broken {}
+struct Broken;
 
 impl Read for Broken {
     fn read(&mut self, _: &mut [u8]) -> io::Result<usize> {
@@ -211,16 +263,16 @@ impl Input for Broken {
     }
 
     fn reader(&self) -> Broken {
-        Broken {}
+        Broken
     }
 }
 
 #[test]
 fn standard_input_gives_its_bytes_or_fails(rt: HostRuntime) -> Result<(), Fail> {
     let alloc = rt.alloc();
-    let bytes = read_all(alloc, &mut StdSource::new(&Inlet {}), 8)?;
+    let bytes = read_all(alloc, &mut StdSource::new(&Inlet), 8)?;
     assert_eq!(rt; bytes.as_slice(), b"keyframe".as_slice());
-    match read_all(alloc, &mut StdSource::new(&Broken {}), 8) {
+    match read_all(alloc, &mut StdSource::new(&Broken), 8) {
         Ok(_) => panic!(rt; "a failing input was read"),
         Err(stop) => assert_eq!(rt; stop, ReadStop::Fault),
     }

@@ -1,13 +1,14 @@
-// Whole inputs and whole outputs, over sources and sinks that give and take pieces of any size.
-ghost use Rattle.std.specs.Prelude.{◌≡◌, ◌<◌, ◌≤◌, [], length, take, IfOk, OnOk, OnErr, IsTrue};
+//! Whole inputs and whole outputs, over sources and sinks that give and take pieces of any size.
+ghost use Rattle.std.specs.Prelude.{◌≡◌, ◌≢◌, ◌<◌, ◌≤◌, [], length, take, IfOk, OnOk, OnErr, IsTrue};
 ghost use Rattle.std.specs.Vec.{vec_len};
 ghost use Rattle.rig_io.specs.Faults.{rose};
-ghost use Rattle.rig_io.specs.Bytes.{Gave, GaveAll, GaveAtMost, GaveMoreThan, Appended, AppendedFront};
+ghost use Rattle.rig_io.specs.Bytes.{Gave, GaveAll, GaveAtMost, GaveOneMore, Appended, AppendedPrefix};
 ghost use Rattle.rig_io.specs.Got.{OnBytes};
 
 use crate::sink::{Put, Sink};
 use crate::source::{Got, Source};
 use std::alloc::{AllocError, Global};
+use thiserror::Error;
 
 /// The size of the first pieces, in bytes.
 const FIRST_PIECE: usize = 65_536;
@@ -16,13 +17,16 @@ const FIRST_PIECE: usize = 65_536;
 const LARGEST_PIECE: usize = 1_048_576;
 
 /// Why an input was not read to its end.
-#[derive(Clone, Copy, Debug, PartialEq, Eq)]
+#[derive(Clone, Copy, Debug, PartialEq, Eq, Error)]
 pub enum ReadStop {
     /// Memory was refused.
+    #[error("out of memory")]
     NoMemory,
     /// A read failed.
+    #[error("a read failed")]
     Fault,
     /// More bytes came than the limit allows.
+    #[error("the input is longer than its limit")]
     TooLong,
 }
 
@@ -38,10 +42,11 @@ impl From<AllocError> for ReadStop {
 }
 
 /// A write failed before all was written.
-#[derive(Clone, Copy, Debug, PartialEq, Eq)]
-pub struct WriteFault {}
+#[derive(Clone, Copy, Debug, PartialEq, Eq, Error)]
+#[error("a write failed")]
+pub struct WriteFault;
 
-/// Reads some bytes into the front of the piece, at most so many.
+/// Reads at most so many bytes into the piece's prefix.
 fn read_piece<S: Source>(source: &mut S, piece: &mut [u8], most: usize) -> Got
     requires piece { 0 < length piece.old }
     requires most { 0 < most }
@@ -50,6 +55,7 @@ fn read_piece<S: Source>(source: &mut S, piece: &mut [u8], most: usize) -> Got
     ensures end { result ≡ Got.End → GaveAll (S.left source.old) (S.left source.new) [] }
     ensures kept { result ≡ Got.Failed → S.left source.new ≡ S.left source.old }
     ensures failed { result ≡ Got.Failed → IsTrue (rose (S.faults source.old) (S.faults source.new)) }
+    ensures no_fault { result ≢ Got.Failed → S.faults source.new ≡ S.faults source.old }
     ensures faults { S.faults source.old ≤ S.faults source.new }
 {
     let room = piece.len().min(most);
@@ -76,15 +82,21 @@ fn grow_piece(piece: &mut Vec<u8>) -> Result<(), AllocError>
 
 /// Reads to the end of the source, up to `limit` bytes.
 ///
-/// No more than `limit + 1` bytes are asked for. After an error the bytes that came are lost, and
-/// the source stands behind them.
+/// # Errors
+///
+/// The bytes that came are lost, and the source goes on behind them.
+///
+/// - [`ReadStop::TooLong`]: the source has more than `limit` bytes; `limit + 1` were taken.
+/// - [`ReadStop::Fault`]: a read failed, which isn't tried again; at most `limit` bytes were taken.
+/// - [`ReadStop::NoMemory`]: at most `limit` bytes were taken.
 pub fn read_all<S: Source>(alloc: Global, source: &mut S, limit: usize) -> Result<Vec<u8>, ReadStop>
     ensures ok { IfOk result (λ v. GaveAll (S.left source.old) (S.left source.new) v.items) }
     ensures within { IfOk result (λ v. vec_len v ≤ limit) }
     ensures fault { result ≡ Err ReadStop.Fault → IsTrue (rose (S.faults source.old) (S.faults source.new)) }
     ensures fault_within { result ≡ Err ReadStop.Fault → GaveAtMost (S.left source.old) (S.left source.new) limit }
     ensures no_memory_within { result ≡ Err ReadStop.NoMemory → GaveAtMost (S.left source.old) (S.left source.new) limit }
-    ensures too_long { result ≡ Err ReadStop.TooLong → GaveMoreThan (S.left source.old) (S.left source.new) limit }
+    ensures too_long { result ≡ Err ReadStop.TooLong → GaveOneMore (S.left source.old) (S.left source.new) limit }
+    ensures no_fault { result ≢ Err ReadStop.Fault → S.faults source.new ≡ S.faults source.old }
     ensures faults { S.faults source.old ≤ S.faults source.new }
 {
     let mut piece = new_piece(alloc, FIRST_PIECE)?;
@@ -107,18 +119,23 @@ pub fn read_all<S: Source>(alloc: Global, source: &mut S, limit: usize) -> Resul
     }
 }
 
-/// Writes all the bytes. After an error a front of them was written.
+/// Writes all the bytes.
+///
+/// # Errors
+///
+/// [`WriteFault`]: a write failed, which isn't tried again; a prefix of the bytes was written.
 pub fn write_all<K: Sink>(sink: &mut K, bytes: &[u8]) -> Result<(), WriteFault>
     ensures ok { OnOk result (Appended (K.written sink.old) (K.written sink.new) bytes.now) }
-    ensures err { OnErr result (AppendedFront (K.written sink.old) (K.written sink.new) bytes.now) }
+    ensures err { OnErr result (AppendedPrefix (K.written sink.old) (K.written sink.new) bytes.now) }
     ensures cause { OnErr result (IsTrue (rose (K.faults sink.old) (K.faults sink.new))) }
+    ensures no_fault { OnOk result (K.faults sink.new ≡ K.faults sink.old) }
     ensures faults { K.faults sink.old ≤ K.faults sink.new }
 {
     let mut done = 0;
     while done < bytes.len() {
         match sink.write(&bytes[done..]) {
             Put::Took(n) => done += n,
-            Put::Failed => return Err(WriteFault {}),
+            Put::Failed => return Err(WriteFault),
         }
     }
     Ok(())

@@ -6,17 +6,18 @@ use Rattle.std.proofs.lemmas.Bool.Decides.{nat_tests}
 use Rattle.std.proofs.lemmas.List.{length-map}
 use Rattle.std.proofs.lemmas.List.Sums.{sum_by-append, sum_by-cons}
 use Rattle.std.proofs.lemmas.List.FromFn.{length-range_with_len}
-use Rattle.rig_fixed.specs.Rotate.{moved, scaled}
-use Rattle.rig_fixed.specs.declared.transform.V3.{V3}
+use Rattle.rig_fixed.specs.Vector.{v3_sum, v3_multiple}
+use Rattle.rig_fixed.specs.declared.vector.V3.{V3}
 use Rattle.rig_scene.specs.declared.channel.Axis.{Axis}
 use Rattle.rig_scene.specs.declared.channel.Axis.TheVariants.{X, Y, Z}
 use Rattle.rig_scene.specs.declared.pencil.Stroke.{Stroke}
 use Rattle.rig_scene.specs.declared.modifier.Effect.{Effect}
 use Rattle.rig_scene.specs.declared.modifier.Effect.TheVariants.{Offset, Mirror, Array}
 use Rattle.rig_scene.specs.declared.modifier.Mirror.{Mirror as MirrorRecord}
-use Rattle.rig_scene.specs.Layer.{most_points, stroke_points, map_points}
-use Rattle.rig_scene.specs.Modify.{reflected_on, mirrored_on, mirror_strokes, times, array_strokes, effect_strokes, modify}
-use Rattle.rig_modifiers.specs.Copies.{doubled, mirror_copies, array_copies, copies}
+use Rattle.rig_scene.specs.declared.limits.TheConstants.{MAX_RESULT_POINTS}
+use Rattle.rig_scene.specs.Layer.{stroke_points, map_points}
+use Rattle.rig_scene.specs.Modify.{reflection_on, mirrored_on, mirror_strokes, times, array_strokes, effect_strokes, modify}
+use Rattle.rig_modifiers.specs.Copies.{sides_on, mirror_copies, array_copies, copies}
 
 points-cons : (s : Stroke) (ss : List Stroke) → stroke_points (s ∷ ss) ≡ length s.points + stroke_points ss
 points-cons s ss = sum_by-cons (λ s. length s.points) s ss
@@ -35,23 +36,23 @@ points-map f (s ∷ ss) =
     let before : stroke_points (s ∷ ss) ≡ length s.points + stroke_points ss = points-cons s ss in
     first ∙ ap (λ n. n + stroke_points (map_points f ss)) here ∙ ap (λ n. length s.points + n) rest ∙ sym before
 
-pub points-mirrored_on : (on : Bool) (axis : Axis) (centre : V3) (ss : List Stroke) → stroke_points (mirrored_on on axis centre ss) ≡ doubled on * stroke_points ss
+pub points-mirrored_on : (on : Bool) (axis : Axis) (centre : V3) (ss : List Stroke) → stroke_points (mirrored_on on axis centre ss) ≡ sides_on on * stroke_points ss
 points-mirrored_on false axis centre ss = omega arith
 points-mirrored_on true axis centre ss =
-    let both : stroke_points (ss ++ map_points (reflected_on axis centre) ss) ≡ stroke_points ss + stroke_points (map_points (reflected_on axis centre) ss) = points-append ss (map_points (reflected_on axis centre) ss) in
-    let same : stroke_points (map_points (reflected_on axis centre) ss) ≡ stroke_points ss = points-map (reflected_on axis centre) ss in
+    let both : stroke_points (ss ++ map_points (reflection_on axis centre) ss) ≡ stroke_points ss + stroke_points (map_points (reflection_on axis centre) ss) = points-append ss (map_points (reflection_on axis centre) ss) in
+    let same : stroke_points (map_points (reflection_on axis centre) ss) ≡ stroke_points ss = points-map (reflection_on axis centre) ss in
     both ∙ (omega arith)
 
-regrouped : (a b c n : ℕ) → c * (b * (a * n)) ≡ a * b * c * n
-regrouped a b c n = omega arith
+product-regroup : (a b c n : ℕ) → c * (b * (a * n)) ≡ a * b * c * n
+product-regroup a b c n = omega arith
 
 points-mirror : (mirror : MirrorRecord) (centre : V3) (ss : List Stroke) → stroke_points (mirror_strokes mirror centre ss) ≡ mirror_copies mirror * stroke_points ss
 points-mirror mirror centre ss =
     let once = mirrored_on mirror.x X centre ss in
     let twice = mirrored_on mirror.y Y centre once in
     points-mirrored_on mirror.z Z centre twice
-    ∙ ap (λ n. doubled mirror.z * n) (points-mirrored_on mirror.y Y centre once ∙ ap (λ n. doubled mirror.y * n) (points-mirrored_on mirror.x X centre ss))
-    ∙ regrouped (doubled mirror.x) (doubled mirror.y) (doubled mirror.z) (stroke_points ss)
+    ∙ ap (λ n. sides_on mirror.z * n) (points-mirrored_on mirror.y Y centre once ∙ ap (λ n. sides_on mirror.y * n) (points-mirrored_on mirror.x X centre ss))
+    ∙ product-regroup (sides_on mirror.x) (sides_on mirror.y) (sides_on mirror.z) (stroke_points ss)
 
 one_more : (m n : ℕ) → n + m * n ≡ (1 + m) * n
 one_more m n = omega arith
@@ -71,7 +72,7 @@ points-copies change ss (k ∷ ks) =
 
 points-array : (count : ℕ) (offset : V3) (ss : List Stroke) → stroke_points (array_strokes count offset ss) ≡ array_copies count * stroke_points ss
 points-array count offset ss =
-    let change : ℕ → V3 → V3 = λ k p. moved p (times k offset) in
+    let change : ℕ → V3 → V3 = λ k p. v3_sum p (times k offset) in
     let ks = range_with_len 1 (count - 1) in
     let all : 1 + (count - 1) ≡ array_copies count = omega arith in
     points-append ss (flat_map (λ k. map_points (change k) ss) ks)
@@ -82,40 +83,40 @@ points-array count offset ss =
 -- an effect leaves so many times the points
 pub points-effect : (effect : Effect) (centre : V3) (ss : List Stroke) → stroke_points (effect_strokes effect centre ss) ≡ copies effect * stroke_points ss
 points-effect (Offset loc scale) centre ss =
-    let same : stroke_points (effect_strokes (Offset loc scale) centre ss) ≡ stroke_points ss = points-map (λ p. moved (scaled scale p) loc) ss in
+    let same : stroke_points (effect_strokes (Offset loc scale) centre ss) ≡ stroke_points ss = points-map (λ p. v3_sum (v3_multiple scale p) loc) ss in
     same ∙ sym (omega arith)
 points-effect (Mirror mirror) centre ss = points-mirror mirror centre ss
 points-effect (Array count offset) centre ss = points-array count offset ss
 
-compared : (n most : ℕ) → (n ≤ most) ⊎ (most < n)
-compared n most = grind (arith, nat_tests)
+le-or-lt : (n most : ℕ) → (n ≤ most) ⊎ (most < n)
+le-or-lt n most = grind (arith, nat_tests)
 
-chosen : (n : ℕ) (few many : List Stroke) → n ≤ most_points → (if nat_le n most_points then few else many) ≡ few
-chosen n few many within =
-    let test : nat_le n most_points ≡ true = grind (arith, nat_tests) in
+if-within : (n : ℕ) (few many : List Stroke) → n ≤ MAX_RESULT_POINTS → (if nat_le n MAX_RESULT_POINTS then few else many) ≡ few
+if-within n few many within =
+    let test : nat_le n MAX_RESULT_POINTS ≡ true = grind (arith, nat_tests) in
     rw test
 
-left : (n : ℕ) (few many : List Stroke) → most_points < n → (if nat_le n most_points then few else many) ≡ many
-left n few many above =
-    let test : nat_le n most_points ≡ false = grind (arith, nat_tests) in
+if-above : (n : ℕ) (few many : List Stroke) → MAX_RESULT_POINTS < n → (if nat_le n MAX_RESULT_POINTS then few else many) ≡ many
+if-above n few many above =
+    let test : nat_le n MAX_RESULT_POINTS ≡ false = grind (arith, nat_tests) in
     rw test
 
 -- the effect is what a modifier does where there is room
-pub modify-within : (effect : Effect) (centre : V3) (ss : List Stroke) (n : ℕ) → n ≡ copies effect → n * stroke_points ss ≤ most_points → effect_strokes effect centre ss ≡ modify effect centre ss
+pub modify-within : (effect : Effect) (centre : V3) (ss : List Stroke) (n : ℕ) → n ≡ copies effect → n * stroke_points ss ≤ MAX_RESULT_POINTS → effect_strokes effect centre ss ≡ modify effect centre ss
 unfolding modify
 modify-within effect centre ss n is within =
     let points : n * stroke_points ss ≡ stroke_points (effect_strokes effect centre ss) = ap (λ n. n * stroke_points ss) is ∙ sym (points-effect effect centre ss) in
-    let few : stroke_points (effect_strokes effect centre ss) ≤ most_points = omega arith in
-    sym (chosen (stroke_points (effect_strokes effect centre ss)) (effect_strokes effect centre ss) ss few)
+    let few : stroke_points (effect_strokes effect centre ss) ≤ MAX_RESULT_POINTS = omega arith in
+    sym (if-within (stroke_points (effect_strokes effect centre ss)) (effect_strokes effect centre ss) ss few)
 
 -- the strokes stay where there is none
-pub modify-above : (effect : Effect) (centre : V3) (ss : List Stroke) (n : ℕ) → n ≡ copies effect → most_points < n * stroke_points ss → ss ≡ modify effect centre ss
+pub modify-above : (effect : Effect) (centre : V3) (ss : List Stroke) (n : ℕ) → n ≡ copies effect → MAX_RESULT_POINTS < n * stroke_points ss → ss ≡ modify effect centre ss
 unfolding modify
 modify-above effect centre ss n is above =
     let points : n * stroke_points ss ≡ stroke_points (effect_strokes effect centre ss) = ap (λ n. n * stroke_points ss) is ∙ sym (points-effect effect centre ss) in
-    let many : most_points < stroke_points (effect_strokes effect centre ss) = omega arith in
-    sym (left (stroke_points (effect_strokes effect centre ss)) (effect_strokes effect centre ss) ss many)
+    let many : MAX_RESULT_POINTS < stroke_points (effect_strokes effect centre ss) = omega arith in
+    sym (if-above (stroke_points (effect_strokes effect centre ss)) (effect_strokes effect centre ss) ss many)
 
 -- what isn't within a limit is above it
 pub above : (n most : ℕ) → (n ≤ most → IsTrue false) → most < n
-above n most fails = elim (compared n most) [ inl within ↦ absurd (false≢true (fails within)) | inr beyond ↦ beyond ]
+above n most fails = elim (le-or-lt n most) [ inl within ↦ absurd (false≢true (fails within)) | inr beyond ↦ beyond ]

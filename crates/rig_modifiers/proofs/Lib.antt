@@ -1,3 +1,4 @@
 mod Copying
 mod Counting
+mod Fewer
 mod Sides

@@ -5,11 +5,11 @@ use Rattle.rig_scene.specs.declared.modifier.Effect.TheVariants.{Offset, Mirror,
 use Rattle.rig_scene.specs.declared.modifier.Mirror.{Mirror as MirrorRecord}
 
 -- 2 for an axis that is on
-abbrev pub doubled : Bool → ℕ
-doubled on = if on then 2 else 1
+abbrev pub sides_on : Bool → ℕ
+sides_on on = if on then 2 else 1
 
 abbrev pub mirror_copies : MirrorRecord → ℕ
-mirror_copies mirror = doubled mirror.x * doubled mirror.y * doubled mirror.z
+mirror_copies mirror = sides_on mirror.x * sides_on mirror.y * sides_on mirror.z
 
 -- a count of 0 leaves the strokes once
 abbrev pub array_copies : ℕ → ℕ

@@ -1,17 +1,19 @@
-// The strokes of an array (Blender Manual, Grease Pencil, Array Modifier).
+//! The strokes of an array (Blender Manual, Grease Pencil, Array Modifier).
 ghost use Rattle.std.specs.Prelude.{◌≡◌, IfOk, pos, ◌*ℤ◌};
 ghost use Rattle.rig_fixed.specs.Fixed.{clamp};
 ghost use Rattle.rig_scene.specs.Modify.{times, array_strokes};
 
+use crate::append::append_copies;
 use crate::count::{array_copies, room_for};
+use crate::source::SourceStrokes;
 use rig_fixed::{Fx, V3};
 use rig_io::{List, NoMemory};
+use rig_points::PointMap;
 use rig_scene::{Stroke, Strokes};
-use rig_strokes::{PointMap, append_copies, append_strokes, are_near};
 use std::alloc::Global;
 
 /// Strokes, and copies up to a count in all, each moved by one more offset.
-pub(crate) fn arrayed(
+pub(crate) fn array_strokes(
     alloc: Global,
     strokes: &[Stroke],
     count: u32,
@@ -19,12 +21,14 @@ pub(crate) fn arrayed(
 ) -> Result<Strokes, NoMemory>
     ensures { IfOk result (λ new. new ≡ array_strokes count offset.now strokes.now) }
 {
-    let near = are_near(strokes);
+    let source = SourceStrokes::new(strokes);
     let mut new = room_for(alloc, strokes, array_copies(count))?;
-    append_copies(alloc, &mut new, strokes)?;
+    append_copies(&mut new, strokes)?;
     for k in 1..count {
-        let moving = PointMap::Moved(times(k, offset));
-        append_strokes(alloc, &mut new, strokes, near, &moving)?;
+        let change = PointMap::Translation {
+            offset: times(k, offset),
+        };
+        source.append(alloc, &mut new, &change)?;
     }
     Ok(List::from(new))
 }

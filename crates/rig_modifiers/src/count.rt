@@ -1,14 +1,12 @@
-// How many points an effect would make, counted before it makes any, and the room for its strokes.
-ghost use Rattle.std.specs.Prelude.{◌≡◌, ◌*◌, ◌<◌, ◌≤◌, ◌↔◌, [], IsTrue, IfOk, MatchOption};
-ghost use Rattle.rig_scene.specs.Layer.{most_points, stroke_points};
-ghost use Rattle.rig_modifiers.specs.Copies.{doubled, mirror_copies, array_copies, copies};
+//! How many points an effect would make, counted before it makes any, and the room for its strokes.
+ghost use Rattle.std.specs.Prelude.{◌≡◌, ◌*◌, ◌<◌, ◌≤◌, ◌↔◌, [], IsTrue, IfOk, IfSome, IfNone};
+ghost use Rattle.rig_scene.specs.Layer.{stroke_points};
+ghost use Rattle.rig_modifiers.specs.Copies.{sides_on, mirror_copies, array_copies, copies};
 
 use rig_io::NoMemory;
+use rig_scene::limits::MAX_RESULT_POINTS;
 use rig_scene::{Effect, Mirror, Stroke};
 use std::alloc::Global;
-
-// The most points that one object shows.
-const MOST_POINTS: usize = 16_384;
 
 /// How often an effect has each point that it is given, in its result.
 pub(crate) fn copies(effect: &Effect) -> u32
@@ -27,11 +25,11 @@ pub(crate) fn mirror_copies(mirror: &Mirror) -> u32
     ensures value { result ≡ mirror_copies mirror.now }
     ensures positive { 0 < result }
 {
-    doubled(mirror.x) * doubled(mirror.y) * doubled(mirror.z)
+    sides_on(mirror.x) * sides_on(mirror.y) * sides_on(mirror.z)
 }
 
-fn doubled(on: bool) -> u32
-    ensures value { result ≡ doubled on }
+fn sides_on(on: bool) -> u32
+    ensures value { result ≡ sides_on on }
     ensures positive { 0 < result }
     ensures within { result ≤ 2 }
 {
@@ -49,22 +47,23 @@ pub(crate) fn array_copies(count: u32) -> u32
 /// Whether so many copies of strokes have no more points than one object may show.
 pub(crate) fn is_within(strokes: &[Stroke], copies: u32) -> bool
     requires { 0 < copies }
-    ensures { IsTrue result ↔ (copies * stroke_points strokes.now ≤ most_points) }
+    ensures { IsTrue result ↔ (copies * stroke_points strokes.now ≤ MAX_RESULT_POINTS) }
 {
-    match few_points(strokes) {
-        Some(points) => copies as u64 * points as u64 <= MOST_POINTS as u64,
+    match point_count(strokes) {
+        Some(points) => copies as u64 * points as u64 <= MAX_RESULT_POINTS as u64,
         None => false,
     }
 }
 
 // The number of the points of strokes. None comes where they are more than one object may show.
-fn few_points(strokes: &[Stroke]) -> Option<usize>
-    ensures { MatchOption result (most_points < stroke_points strokes.now) (λ n. (n ≡ stroke_points strokes.now) × (n ≤ most_points)) }
+fn point_count(strokes: &[Stroke]) -> Option<usize>
+    ensures few { IfSome result (λ n. (n ≡ stroke_points strokes.now) × (n ≤ MAX_RESULT_POINTS)) }
+    ensures many { IfNone result (MAX_RESULT_POINTS < stroke_points strokes.now) }
 {
     let mut count = 0;
     for stroke in strokes {
         let points = stroke.points.len();
-        if points > MOST_POINTS - count {
+        if points > MAX_RESULT_POINTS - count {
             return None;
         }
         count += points;
@@ -80,8 +79,5 @@ pub(crate) fn room_for(
 ) -> Result<Vec<Stroke>, NoMemory>
     ensures { IfOk result (λ room. room.items ≡ []) }
 {
-    match strokes.len().checked_mul(copies as usize) {
-        Some(room) => Ok(Vec::with_capacity(alloc, room)?),
-        None => Err(NoMemory {}),
-    }
+    Ok(Vec::with_capacity(alloc, strokes.len().saturating_mul(copies as usize))?)
 }

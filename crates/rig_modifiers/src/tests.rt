@@ -1,4 +1,4 @@
-// Worked examples of each modifier.
+//! Worked examples of each modifier.
 use super::*;
 use rig_fixed::{Fx, V3};
 use rig_io::List;
@@ -8,9 +8,9 @@ use std::test::Fail;
 
 fn point(x: i64, y: i64, z: i64) -> V3 {
     V3 {
-        x: Fx::clamped(x),
-        y: Fx::clamped(y),
-        z: Fx::clamped(z),
+        x: Fx::of_i64(x),
+        y: Fx::of_i64(y),
+        z: Fx::of_i64(z),
     }
 }
 
@@ -22,7 +22,7 @@ fn one_stroke(alloc: Global, point: &V3, count: usize) -> Result<Strokes, Fail> 
     Ok(List::from(vec![in alloc; stroke]?))
 }
 
-fn mirror_on(x: bool, y: bool, z: bool) -> Effect {
+fn mirror_effect(x: bool, y: bool, z: bool) -> Effect {
     Effect::Mirror(Mirror {
         x,
         y,
@@ -31,7 +31,7 @@ fn mirror_on(x: bool, y: bool, z: bool) -> Effect {
     })
 }
 
-fn array_of(count: u32) -> Effect {
+fn array_effect(count: u32) -> Effect {
     Effect::Array {
         count,
         offset: point(10, 0, 0),
@@ -42,8 +42,13 @@ fn array_of(count: u32) -> Effect {
 fn mirror_appends_for_each_axis(rt: HostRuntime) -> Result<(), Fail> {
     let alloc = rt.alloc();
     let one = one_stroke(alloc, &point(1, 2, 3), 1)?;
-    let new = modify(alloc, &mirror_on(true, true, true), &one, point(0, 0, 0))?;
-    let places = [
+    let new = modify(
+        alloc,
+        &mirror_effect(true, true, true),
+        &one,
+        point(0, 0, 0),
+    )?;
+    let points = [
         (1, 2, 3),
         (-1, 2, 3),
         (1, -2, 3),
@@ -54,13 +59,13 @@ fn mirror_appends_for_each_axis(rt: HostRuntime) -> Result<(), Fail> {
         (-1, -2, -3),
     ];
     assert_eq!(rt; new.len(), 8);
-    for (stroke, (x, y, z)) in new.as_slice().iter().zip(places.iter()) {
+    for (stroke, (x, y, z)) in new.as_slice().iter().zip(points.iter()) {
         assert_eq!(rt; stroke.points.as_slice(), [point(*x, *y, *z)].as_slice());
     }
     let one = one_stroke(alloc, &point(500_000, 0, 0), 1)?;
     let new = modify(
         alloc,
-        &mirror_on(true, false, false),
+        &mirror_effect(true, false, false),
         &one,
         point(2_000_000, 0, 0),
     )?;
@@ -77,7 +82,7 @@ fn array_stays_within_the_limit(rt: HostRuntime) -> Result<(), Fail> {
     let alloc = rt.alloc();
     let strokes = one_stroke(alloc, &point(1, 2, 3), 300)?;
     for (count, copies, x) in [(64, 1, 1), (54, 54, 531), (1, 1, 1), (0, 1, 1)] {
-        let new = modify(alloc, &array_of(count), &strokes, point(0, 0, 0))?;
+        let new = modify(alloc, &array_effect(count), &strokes, point(0, 0, 0))?;
         assert_eq!(rt; new.len(), copies, "at a count of {count}");
         for stroke in new.as_slice() {
             assert_eq!(rt; stroke.points.len(), 300, "at a count of {count}");
@@ -93,7 +98,7 @@ fn offset_scales_and_moves(rt: HostRuntime) -> Result<(), Fail> {
     let alloc = rt.alloc();
     let offset = Effect::Offset {
         loc: point(10, 0, 999_999_999_999),
-        scale: Fx::clamped(2_500_000),
+        scale: Fx::of_i64(2_500_000),
     };
     let one = one_stroke(alloc, &point(1, -1, 2), 1)?;
     let new = modify(alloc, &offset, &one, point(0, 0, 0))?;
@@ -102,7 +107,7 @@ fn offset_scales_and_moves(rt: HostRuntime) -> Result<(), Fail> {
         new.get(0).points.as_slice(),
         [point(13, -2, 1_000_000_000_000)].as_slice()
     );
-    for effect in [offset, mirror_on(true, true, false), array_of(64)] {
+    for effect in [offset, mirror_effect(true, true, false), array_effect(64)] {
         let none = List::new(alloc);
         assert_eq!(rt; modify(alloc, &effect, &none, point(0, 0, 0))?.len(), 0);
     }
@@ -124,7 +129,7 @@ fn each_step_stops_at_the_limits(rt: HostRuntime) -> Result<(), Fail> {
 
     let offset = Effect::Offset {
         loc: point(-1, 0, 0),
-        scale: Fx::clamped(2_000_000),
+        scale: Fx::of_i64(2_000_000),
     };
     let highest = one_stroke(alloc, &point(limit, 0, 0), 1)?;
     let new = modify(alloc, &offset, &highest, point(0, 0, 0))?;

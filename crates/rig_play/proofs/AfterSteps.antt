@@ -26,19 +26,19 @@ last_frame-frame steps frame = ap first_frame (reverse-snoc steps (Frame frame))
 pub last_frame-set : (steps : List Step) (object : ℕ) (axis : Axis) (value : ℤ) → last_frame (steps ++ SetLocation object axis value ∷ []) ≡ last_frame steps
 last_frame-set steps object axis value = ap first_frame (reverse-snoc steps (SetLocation object axis value))
 
-pub was_set-frame : (steps : List Step) (frame : ℤ) (place : ℕ) → was_set (steps ++ Frame frame ∷ []) place ≡ false
-was_set-frame steps frame place = ap (λ s. list_any (sets place) (take_while is_edit s)) (reverse-snoc steps (Frame frame))
+pub was_set-frame : (steps : List Step) (frame : ℤ) (index : ℕ) → was_set (steps ++ Frame frame ∷ []) index ≡ false
+was_set-frame steps frame index = ap (λ s. list_any (sets index) (take_while is_edit s)) (reverse-snoc steps (Frame frame))
 
-pub was_set-set : (steps : List Step) (object : ℕ) (axis : Axis) (value : ℤ) (place : ℕ) → was_set (steps ++ SetLocation object axis value ∷ []) place ≡ ((object == place) || was_set steps place)
-was_set-set steps object axis value place =
-    ap (λ s. list_any (sets place) (take_while is_edit s)) (reverse-snoc steps (SetLocation object axis value))
-    ∙ ap (list_any (sets place)) (take_while-cons is_edit (SetLocation object axis value) (reverse steps))
+pub was_set-set : (steps : List Step) (object : ℕ) (axis : Axis) (value : ℤ) (index : ℕ) → was_set (steps ++ SetLocation object axis value ∷ []) index ≡ ((object == index) || was_set steps index)
+was_set-set steps object axis value index =
+    ap (λ s. list_any (sets index) (take_while is_edit s)) (reverse-snoc steps (SetLocation object axis value))
+    ∙ ap (list_any (sets index)) (take_while-cons is_edit (SetLocation object axis value) (reverse steps))
 
--- what a change at a place leaves alone is left alone in the list
-map-changed_at : {A B : Type 0} (f : A → B) (change : A → A) → ((x : A) → f (change x) ≡ f x) → (place : ℕ) (xs : List A) → map f (changed_at place change xs) ≡ map f xs
-map-changed_at f change same place [] = refl
+-- what a change at an index leaves alone is left alone in the list
+map-changed_at : {A B : Type 0} (f : A → B) (change : A → A) → ((x : A) → f (change x) ≡ f x) → (index : ℕ) (xs : List A) → map f (changed_at index change xs) ≡ map f xs
+map-changed_at f change same index [] = refl
 map-changed_at f change same zero (x ∷ xs) = ap (λ y. y ∷ map f xs) (same x)
-map-changed_at f change same (suc place) (x ∷ xs) = ap (λ ys. f x ∷ ys) (map-changed_at f change same place xs)
+map-changed_at f change same (suc index) (x ∷ xs) = ap (λ ys. f x ∷ ys) (map-changed_at f change same index xs)
 
 map-after_step : {B : Type 0} (f : Object → B) → ((axis : Axis) (value : ℤ) (o : Object) → f (with_location axis value o) ≡ f o) → (scene : SceneRecord) (step : Step) → map f (after_step scene step).objects ≡ map f scene.objects
 map-after_step f same scene (Frame frame) = refl
@@ -63,10 +63,10 @@ pub after-actions : (base : SceneRecord) (steps : List Step) → (after base ste
 after-actions base [] = refl
 after-actions base (step ∷ steps) = after-actions (after_step base step) steps ∙ after_step-actions base step
 
-length-changed_at : {A : Type 0} (change : A → A) (place : ℕ) (xs : List A) → length (changed_at place change xs) ≡ length xs
-length-changed_at change place [] = refl
+length-changed_at : {A : Type 0} (change : A → A) (index : ℕ) (xs : List A) → length (changed_at index change xs) ≡ length xs
+length-changed_at change index [] = refl
 length-changed_at change zero (x ∷ xs) = refl
-length-changed_at change (suc place) (x ∷ xs) = ap suc (length-changed_at change place xs)
+length-changed_at change (suc index) (x ∷ xs) = ap suc (length-changed_at change index xs)
 
 length-after_step : (scene : SceneRecord) (step : Step) → length (after_step scene step).objects ≡ length scene.objects
 length-after_step scene (Frame frame) = refl
@@ -78,13 +78,13 @@ length-after base [] = refl
 length-after base (step ∷ steps) = length-after (after_step base step) steps ∙ length-after_step base step
 
 -- objects with the same actions have the same operations
-pub same_operations : (place : ℕ) (xs ys : List Object) → map (λ o. o.action) xs ≡ map (λ o. o.action) ys → operations_from place xs ≡ operations_from place ys
-same_operations place [] [] same = refl
-same_operations place [] (y ∷ ys) same = cc
-same_operations place (x ∷ xs) [] same = cc
-same_operations place (x ∷ xs) (y ∷ ys) same =
+pub same_operations : (index : ℕ) (xs ys : List Object) → map (λ o. o.action) xs ≡ map (λ o. o.action) ys → operations_from index xs ≡ operations_from index ys
+same_operations index [] [] same = refl
+same_operations index [] (y ∷ ys) same = cc
+same_operations index (x ∷ xs) [] same = cc
+same_operations index (x ∷ xs) (y ∷ ys) same =
     let head : x.action ≡ y.action = cc in
-    let rest : operations_from (suc place) xs ≡ operations_from (suc place) ys = same_operations (suc place) xs ys (cc) in
+    let rest : operations_from (suc index) xs ≡ operations_from (suc index) ys = same_operations (suc index) xs ys (cc) in
     rw (head, rest)
 
 -- edits leave the operations

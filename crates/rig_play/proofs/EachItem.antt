@@ -11,6 +11,6 @@ abbrev pub with_front : {A : Type 0} → List A → Option (List A) → Option (
 with_front front rest = option_map (λ xs. front ++ xs) rest
 
 module _ {A : Type 0} (reads : ℕ → Data → Option A) where
-  -- the items that stand from a place on
+  -- the items that stand from an index on
   abbrev pub rest_of : ℕ → List Value → Option (List A)
   rest_of i vs = each_from i reads (items_view (drop i vs))

@@ -1,11 +1,12 @@
 -- How a run ends, from what its parts say.
 use Rattle.std.proofs.Common.{◌≡◌, ℕ, ◌≤◌, ◌⊎◌, List, length, Option, Some, None, inl, inr, refl, sym, ap, subst, arith}
+use Rattle.rig_scene.specs.declared.limits.TheConstants.{MAX_INPUT_BYTES}
 use Rattle.rig_io.specs.Bytes.{GaveAll}
 use Rattle.rig_play.specs.declared.status.Status.{Status}
 use Rattle.rig_play.specs.declared.status.Status.TheVariants.{Ok, NoMemory, Usage, ReadFault, WriteFault, Unbuilt}
 use Rattle.rig_play.specs.Played.{InputRecord}
 use Rattle.rig_play.specs.Form.{input_of}
-use Rattle.rig_play.specs.Run.{most_bytes, end_for, EndsAs}
+use Rattle.rig_play.specs.Run.{end_for, EndsAs}
 
 -- a status that isn't one of the others is the end that the input has, or want of memory
 pub end_of : (status : Status) (form : Option InputRecord) →
@@ -20,7 +21,7 @@ end_of WriteFault form ok unbuilt write usage read = absurd (write refl)
 end_of Unbuilt form ok unbuilt write usage read = inl (sym (ap end_for (unbuilt refl)))
 
 -- bytes that were read to their end decide how the run ends
-pub ends_whole : (left after : Option (List ℕ)) (bytes : List ℕ) (status : Status) → GaveAll left after bytes → length bytes ≤ most_bytes →
+pub ends_whole : (left after : Option (List ℕ)) (bytes : List ℕ) (status : Status) → GaveAll left after bytes → length bytes ≤ MAX_INPUT_BYTES →
     (status ≡ end_for (input_of bytes)) ⊎ (status ≡ NoMemory) → EndsAs left status
 ends_whole None after bytes status gave few end = tt
 ends_whole (Some left) after bytes status gave few end =

@@ -3,7 +3,7 @@ use Rattle.std.proofs.Common.{◌≡◌, ℕ, ℤ, List, [], ◌∷◌, ◌++◌
 use Rattle.std.specs.List.{flat_map}
 use Rattle.rig_scene.specs.declared.object.Object.{Object}
 use Rattle.rig_scene.specs.Scene.{SceneRecord}
-use Rattle.rig_fixed.specs.declared.transform.V3.{V3}
+use Rattle.rig_fixed.specs.declared.vector.V3.{V3}
 use Rattle.rig_play.specs.declared.script.Step.{Step}
 use Rattle.rig_play.specs.declared.script.Step.TheVariants.{Frame}
 use Rattle.rig_play.specs.Edited.{after}

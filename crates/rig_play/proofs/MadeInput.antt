@@ -12,7 +12,7 @@ use Rattle.rig_play.specs.declared.script.Step.{Step}
 use Rattle.rig_play.specs.Played.{InputRecord}
 use Rattle.rig_play.specs.Script.{are_steps}
 use Rattle.rig_play.specs.Named.{named}
-use Rattle.rig_play.specs.Scripted.{with_script}
+use Rattle.rig_play.specs.WithScript.{with_script}
 use Rattle.rig_play.specs.Members.{◌>>=◌, only_if, has_only, has_text, member_in, list_in}
 use Rattle.rig_play.specs.Form.{step_in, track_in, single, script_in, scene_in, input_in, input_of}
 

@@ -6,7 +6,7 @@ use Rattle.std.specs.List.{list_any, position_or_len}
 use Rattle.std.specs.declared.alloc.Global.{Global}
 use Rattle.std.proofs.lemmas.List.{length-map}
 use Rattle.indexmap.specs.IndexSet.{insert_key}
-use Rattle.rig_scene.specs.Path.{same_text}
+use Rattle.rig_scene.specs.Text.{same_text}
 use Rattle.rig_play.proofs.Named.{list_any-map}
 
 position_or_len-map : {A B : Type 0} (p : B → Bool) (f : A → B) (xs : List A) → position_or_len p (map f xs) ≡ position_or_len (λ x. p (f x)) xs
@@ -16,8 +16,8 @@ position_or_len-map p f (x ∷ xs) = rw (position_or_len-map p f xs) refl
 position-map : {A B : Type 0} (p : B → Bool) (f : A → B) (xs : List A) → position p (map f xs) ≡ position (λ x. p (f x)) xs
 position-map p f xs = rw (position_or_len-map p f xs, length-map xs f) refl
 
-pub place_of_text : (text : List ℕ) (keys : List (String Global)) (seen : List (List ℕ)) → map string_bytes keys ≡ seen → position (λ k. same_text text (string_bytes k)) keys ≡ position (same_text text) seen
-place_of_text text keys seen e = sym (position-map (same_text text) string_bytes keys) ∙ ap (position (same_text text)) e
+pub index_of_text : (text : List ℕ) (keys : List (String Global)) (seen : List (List ℕ)) → map string_bytes keys ≡ seen → position (λ k. same_text text (string_bytes k)) keys ≡ position (same_text text) seen
+index_of_text text keys seen e = sym (position-map (same_text text) string_bytes keys) ∙ ap (position (same_text text)) e
 
 pub map-push : {A B : Type 0} (f : A → B) (xs : List A) (x : A) → map f (xs ++ x ∷ []) ≡ map f xs ++ f x ∷ []
 map-push f [] x = refl

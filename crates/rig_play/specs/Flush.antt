@@ -8,23 +8,23 @@ use Rattle.rig_play.specs.Script.{last_frame, was_set}
 use Rattle.rig_play.specs.Edited.{after}
 use Rattle.rig_play.specs.Operations.{Operation, Time, Animation, Local, World, operations}
 
--- whether the object at a place has an action
+-- whether the object at an index has an action
 abbrev pub is_animated : SceneRecord → ℕ → Bool
-is_animated scene place = is_some (option_and_then (λ o. o.action) (slice_get scene.objects place))
+is_animated scene index = is_some (option_and_then (λ o. o.action) (slice_get scene.objects index))
 
 -- whether the time leads to an operation: itself, each animation, and the transforms of objects with an action
 abbrev pub follows_time : SceneRecord → Operation → Bool
 follows_time scene Time = true
-follows_time scene (Animation place) = true
-follows_time scene (Local place) = is_animated scene place
-follows_time scene (World place) = is_animated scene place
+follows_time scene (Animation index) = true
+follows_time scene (Local index) = is_animated scene index
+follows_time scene (World index) = is_animated scene index
 
 -- whether an edit since the last frame step leads to an operation: the transforms of the objects that were set
 abbrev pub follows_edit : List Step → Operation → Bool
 follows_edit steps Time = false
-follows_edit steps (Animation place) = false
-follows_edit steps (Local place) = was_set steps place
-follows_edit steps (World place) = was_set steps place
+follows_edit steps (Animation index) = false
+follows_edit steps (Local index) = was_set steps index
+follows_edit steps (World index) = was_set steps index
 
 -- Whether an operation runs at a frame step, after these steps: at the first frame step each does; at a later
 -- one those that an edit since the frame step before leads to, and where the frame is another one, those

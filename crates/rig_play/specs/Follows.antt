@@ -1,7 +1,7 @@
 -- How the plain engine stands after steps from an opening scene, and what one pass over the objects does.
 use Rattle.std.specs.Prelude.{◌≡◌, ℕ, ◌+◌, ◌<◌, ℤ, ◌&&◌, ◌||◌, List, [], ◌∷◌, length, map, slice_get, Bool, true, false, not, Option, Some, None, is_some, if◌then◌else◌}
 use Rattle.std.specs.Ordering.{int_eq}
-use Rattle.rig_fixed.specs.declared.transform.V3.{V3}
+use Rattle.rig_fixed.specs.declared.vector.V3.{V3}
 use Rattle.rig_scene.specs.declared.channel.Channel.TheVariants.{LocX, LocY, LocZ}
 use Rattle.rig_scene.specs.declared.object.Object.{Object}
 use Rattle.rig_scene.specs.Scene.{SceneRecord}
@@ -26,11 +26,11 @@ pub record Follows (base : SceneRecord) (steps : List Step) (engine : Engine) : 
   pub originals : engine.originals.items ≡ map (λ o. o.own.loc) (after base steps).objects
   pub kept_length : length engine.kept.items ≡ length base.objects
   pub marks_length : length engine.marks.items ≡ length base.objects
-  pub marks : (place : ℕ) → place < length base.objects → slice_get engine.marks.items place ≡ Some (was_set steps place)
+  pub marks : (index : ℕ) → index < length base.objects → slice_get engine.marks.items index ≡ Some (was_set steps index)
   pub last : engine.last ≡ last_frame steps
-  pub kept : (frame : ℤ) → last_frame steps ≡ Some frame → (place : ℕ) (object : Object) →
-      slice_get (after base steps).objects place ≡ Some object → was_set steps place ≡ false →
-      slice_get engine.kept.items place ≡ Some (location (after base steps) object frame)
+  pub kept : (frame : ℤ) → last_frame steps ≡ Some frame → (index : ℕ) (object : Object) →
+      slice_get (after base steps).objects index ≡ Some object → was_set steps index ≡ false →
+      slice_get engine.kept.items index ≡ Some (location (after base steps) object frame)
 
 -- an engine is for so many objects
 pub record IsFor (count : ℕ) (engine : Engine) : Type 0 where

@@ -7,19 +7,19 @@ use Rattle.serde_json.specs.Data.{Data, Items, no_items, item}
 use Rattle.serde_json.specs.Find.{get, as_str, as_array}
 use Rattle.serde_json.specs.Read.{read}
 use Rattle.rig_fixed.specs.Fixed.{unit}
-use Rattle.rig_fixed.specs.Transform.{origin}
+use Rattle.rig_fixed.specs.Vector.{origin}
 use Rattle.rig_scene.specs.declared.channel.Axis.{Axis}
 use Rattle.rig_scene.specs.declared.channel.Axis.TheVariants.{X, Y, Z}
 use Rattle.rig_scene.specs.declared.channel.Channel.{Channel}
 use Rattle.rig_scene.specs.declared.channel.Channel.TheVariants.{LocX, LocY, LocZ}
-use Rattle.rig_scene.specs.declared.channel.Path.TheVariants.{Own}
+use Rattle.rig_scene.specs.declared.path.Path.TheVariants.{Own}
 use Rattle.rig_scene.specs.declared.action.Interp.TheVariants.{Constant}
 use Rattle.rig_scene.specs.declared.action.Key.{Key}
 use Rattle.rig_scene.specs.declared.action.Curve.{Curve}
 use Rattle.rig_scene.specs.declared.action.Action.{Action}
 use Rattle.rig_scene.specs.declared.object.Kind.TheVariants.{Empty}
 use Rattle.rig_scene.specs.declared.object.Object.{Object}
-use Rattle.rig_scene.specs.Path.{same_text}
+use Rattle.rig_scene.specs.Text.{same_text}
 use Rattle.rig_scene.specs.Scene.{SceneRecord}
 use Rattle.rig_scene.specs.WellFormed.{is_scene}
 use Rattle.rig_play.specs.declared.script.Step.{Step}
@@ -43,38 +43,38 @@ location_channel Z = LocZ
 
 -- a key: `frame`, `value`, and `interp`, which is `constant`
 abbrev pub key_in : ℕ → Data → Option Key
-key_in place d = only_if (has_only (codes "frame" ∷ codes "value" ∷ codes "interp" ∷ []) d && has_text (codes "interp") (codes "constant") d) (do
+key_in index d = only_if (has_only (codes "frame" ∷ codes "value" ∷ codes "interp" ∷ []) d && has_text (codes "interp") (codes "constant") d) (do
   frame ← member_in (codes "frame") frame_in d
   value ← member_in (codes "value") fixed_in d
   Some (record { frame = frame; value = value; interp = Constant }))
 
 -- a curve: `channel`, a location channel, and `keys`
 abbrev pub curve_in : ℕ → Data → Option Curve
-curve_in place d = only_if (has_only (codes "channel" ∷ codes "keys" ∷ []) d) (do
+curve_in index d = only_if (has_only (codes "channel" ∷ codes "keys" ∷ []) d) (do
   axis ← member_in (codes "channel") axis_in d
   keys ← member_in (codes "keys") (list_in key_in) d
   Some (record { path = Own (location_channel axis); keys = keys }))
 
 -- an action: `name` and `curves`
 abbrev pub action_in : ℕ → Data → Option Action
-action_in place d = only_if (has_only (codes "name" ∷ codes "curves" ∷ []) d) (do
+action_in index d = only_if (has_only (codes "name" ∷ codes "curves" ∷ []) d) (do
   name ← member_in (codes "name") name_in d
   curves ← member_in (codes "curves") (list_in curve_in) d
   Some (record { name = name; curves = curves }))
 
--- the place of the one of these names that the value is
-abbrev pub place_in : List (List ℕ) → Data → Option ℕ
-place_in names d = as_str d >>= λ s. position (same_text s) names
+-- the index of the one of these names that the value is
+abbrev pub index_in : List (List ℕ) → Data → Option ℕ
+index_in names d = as_str d >>= λ s. position (same_text s) names
 
 -- An object: `name`, `kind`, which is `empty`, where present `loc`, else 0, and where present `action`, which
--- names one of the actions. It has no parent, no rotation, scale 1, and its place as its id.
+-- names one of the actions. It has no parent, no rotation, scale 1, and its index as its id.
 abbrev pub object_in : List (List ℕ) → ℕ → Data → Option Object
-object_in actions place d = only_if (has_only (codes "name" ∷ codes "kind" ∷ codes "loc" ∷ codes "action" ∷ []) d && has_text (codes "kind") (codes "empty") d) (do
+object_in actions index d = only_if (has_only (codes "name" ∷ codes "kind" ∷ codes "loc" ∷ codes "action" ∷ []) d && has_text (codes "kind") (codes "empty") d) (do
   name ← member_in (codes "name") name_in d
   loc ← member_or origin (codes "loc") vector_in d
-  action ← member_or None (codes "action") (λ a. option_map Some (place_in actions a)) d
+  action ← member_or None (codes "action") (λ a. option_map Some (index_in actions a)) d
   Some (record {
-    id = record { 0 = place };
+    id = record { 0 = index };
     name = name;
     own = record { loc = loc; rot = record { w = unit; x = pos 0; y = pos 0; z = pos 0 }; scale = unit };
     action = action;
@@ -106,14 +106,14 @@ frame_step_in d = only_if (has_only (codes "frame" ∷ []) d) (option_map Frame 
 -- a step that sets a number: `edit`, which is `set`, `object`, which names one of the objects, `channel` and `value`
 abbrev pub set_step_in : List (List ℕ) → Data → Option Step
 set_step_in objects d = only_if (has_only (codes "edit" ∷ codes "object" ∷ codes "channel" ∷ codes "value" ∷ []) d && has_text (codes "edit") (codes "set") d) (do
-  object ← member_in (codes "object") (place_in objects) d
+  object ← member_in (codes "object") (index_in objects) d
   axis ← member_in (codes "channel") axis_in d
   value ← member_in (codes "value") fixed_in d
   Some (SetLocation object axis value))
 
 -- a step: one with a member `edit` sets a number, any other is a frame step
 abbrev pub step_in : List (List ℕ) → ℕ → Data → Option Step
-step_in objects place d = option_map_or (λ edit. set_step_in objects d) (get (codes "edit") d) (frame_step_in d)
+step_in objects index d = option_map_or (λ edit. set_step_in objects d) (get (codes "edit") d) (frame_step_in d)
 
 -- a track: `mode`, which is `viewport`, and `steps`, which can be taken
 abbrev pub track_in : List (List ℕ) → Data → Option (List Step)

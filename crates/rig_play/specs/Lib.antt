@@ -1,3 +1,4 @@
+-- what a reader has to believe: the statement
 pub mod Status
 pub mod Script
 pub mod Played
@@ -12,9 +13,10 @@ pub mod Members
 pub mod Form
 pub mod Words
 pub mod Run
+-- what the proofs need
 pub mod Follows
 pub mod Names
 pub mod Limited
 pub mod Named
 pub mod Plain
-pub mod Scripted
+pub mod WithScript

@@ -1,13 +1,14 @@
 -- What a JSON value holds: its members, numbers, words, names, vectors and lists. None where it holds something else.
-use Rattle.std.specs.Prelude.{ℕ, suc, ℤ, pos, negsuc, ◌&&◌, List, [], ◌∷◌, Bool, true, false, Option, Some, None, option_and_then, int_le, if◌then◌else◌}
+use Rattle.std.specs.Prelude.{ℕ, suc, ℤ, ◌&&◌, List, [], ◌∷◌, Bool, true, false, Option, Some, None, option_and_then, int_le, if◌then◌else◌}
 use Rattle.std.specs.Option.{option_map_or}
 use Rattle.std.specs.List.{list_any}
 use Rattle.serde_json.specs.Data.{Data, null, boolean, number, string, array, object, Items, no_items, item, Members, no_members, member}
 use Rattle.serde_json.specs.Find.{get, as_number, as_str, as_array, as_i64}
+use Rattle.rig_scene.specs.declared.limits.TheConstants.{MIN_FRAME, MAX_FRAME}
 use Rattle.rig_fixed.specs.Fixed.{lowest, highest}
-use Rattle.rig_fixed.specs.declared.transform.V3.{V3}
+use Rattle.rig_fixed.specs.declared.vector.V3.{V3}
 use Rattle.rig_scene.specs.Name.{is_name}
-use Rattle.rig_scene.specs.Path.{same_text}
+use Rattle.rig_scene.specs.Text.{same_text}
 
 infixl 10 ◌>>=◌
 abbrev pub ◌>>=◌ : {A B : Type 0} → Option A → (A → Option B) → Option B
@@ -47,9 +48,9 @@ whole_in least most d = as_number d >>= as_i64 >>= λ n. only_if (int_le least n
 abbrev pub fixed_in : Data → Option ℤ
 fixed_in d = whole_in lowest highest d
 
--- a frame from -1,000,000 to 1,000,000
+-- a frame within the limits
 abbrev pub frame_in : Data → Option ℤ
-frame_in d = whole_in (negsuc 999999) (pos 1000000) d
+frame_in d = whole_in MIN_FRAME MAX_FRAME d
 
 -- a name
 abbrev pub name_in : Data → Option (List ℕ)
@@ -78,12 +79,12 @@ vector_of (item x (item y (item z (item d ds)))) = None
 abbrev pub vector_in : Data → Option V3
 vector_in d = as_array d >>= vector_of
 
--- each item, read with its place, where each can be
+-- each item, read with its index, where each can be
 abbrev pub each_from : {A : Type 0} → ℕ → (ℕ → Data → Option A) → Items → Option (List A)
-each_from place read no_items = Some []
-each_from place read (item d ds) = do
-  x ← read place d
-  xs ← each_from (suc place) read ds
+each_from index read no_items = Some []
+each_from index read (item d ds) = do
+  x ← read index d
+  xs ← each_from (suc index) read ds
   Some (x ∷ xs)
 
 -- an array whose items can all be read

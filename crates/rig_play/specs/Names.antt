@@ -1,6 +1,6 @@
 -- Names that stand once each.
 use Rattle.std.specs.Prelude.{ℕ, List, Option, Some}
-use Rattle.rig_scene.specs.Path.{same_text}
+use Rattle.rig_scene.specs.Text.{same_text}
 use Rattle.rig_scene.specs.Distinct.{are_distinct}
 use Rattle.rig_play.specs.Members.{only_if}
 

@@ -1,11 +1,11 @@
 -- The values of a scene at a frame, from scratch: over its records alone.
 use Rattle.std.specs.Prelude.{ℤ, ◌-◌, ◌==◌, List, length, filter, slice_get, Option, option_map, option_and_then, unwrap_or, int_le, if◌then◌else◌}
 use Rattle.std.specs.List.{find}
-use Rattle.rig_fixed.specs.declared.transform.V3.{V3}
+use Rattle.rig_fixed.specs.declared.vector.V3.{V3}
 use Rattle.rig_fixed.specs.Transform.{Transform, identity}
 use Rattle.rig_scene.specs.declared.channel.Channel.{Channel}
 use Rattle.rig_scene.specs.declared.channel.Channel.TheVariants.{LocX, LocY, LocZ}
-use Rattle.rig_scene.specs.declared.channel.Path.TheVariants.{Own}
+use Rattle.rig_scene.specs.declared.path.Path.TheVariants.{Own}
 use Rattle.rig_scene.specs.declared.action.Key.{Key}
 use Rattle.rig_scene.specs.declared.action.Curve.{Curve}
 use Rattle.rig_scene.specs.declared.action.Action.{Action}

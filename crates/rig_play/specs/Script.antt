@@ -1,6 +1,7 @@
 -- The steps of a track, and what they ask.
 use Rattle.std.specs.Prelude.{ℕ, ℤ, ◌==◌, ◌&&◌, List, [], ◌∷◌, length, reverse, take_while, Bool, true, false, nat_lt, nat_le, Option, Some, None}
 use Rattle.std.specs.List.{list_any, list_all}
+use Rattle.rig_scene.specs.declared.limits.TheConstants.{MAX_STEPS}
 use Rattle.rig_play.specs.declared.script.Step.{Step}
 use Rattle.rig_play.specs.declared.script.Step.TheVariants.{Frame, SetLocation}
 
@@ -14,10 +15,10 @@ abbrev pub is_edit : Step → Bool
 is_edit (Frame frame) = false
 is_edit (SetLocation object axis value) = true
 
--- whether a step sets a number of the object at a place
+-- whether a step sets a number of the object at an index
 abbrev pub sets : ℕ → Step → Bool
-sets place (Frame frame) = false
-sets place (SetLocation object axis value) = object == place
+sets index (Frame frame) = false
+sets index (SetLocation object axis value) = object == index
 
 -- the first frame of a list of steps
 abbrev pub first_frame : List Step → Option ℤ
@@ -33,15 +34,15 @@ last_frame steps = first_frame (reverse steps)
 abbrev pub edits_since_frame : List Step → List Step
 edits_since_frame steps = take_while is_edit (reverse steps)
 
--- whether the object at a place was set since the last frame step
+-- whether the object at an index was set since the last frame step
 abbrev pub was_set : List Step → ℕ → Bool
-was_set steps place = list_any (sets place) (edits_since_frame steps)
+was_set steps index = list_any (sets index) (edits_since_frame steps)
 
--- whether a step can be taken in a scene of so many objects: an edit names one of their places
+-- whether a step can be taken in a scene of so many objects: an edit names one of their indices
 abbrev pub is_step : ℕ → Step → Bool
 is_step objects (Frame frame) = true
 is_step objects (SetLocation object axis value) = nat_lt object objects
 
--- whether these are the steps of a track for a scene of so many objects: at most 4,096
+-- whether these are the steps of a track for a scene of so many objects: few enough
 abbrev pub are_steps : ℕ → List Step → Bool
-are_steps objects steps = nat_le (length steps) 4096 && list_all (is_step objects) steps
+are_steps objects steps = nat_le (length steps) MAX_STEPS && list_all (is_step objects) steps

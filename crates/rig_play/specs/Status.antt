@@ -1,5 +1,5 @@
 -- The exit status of each way to end.
-use Rattle.std.specs.Prelude.{ℕ}
+use Rattle.std.specs.Prelude.{ℕ, Result, Ok as ran, Err as refused}
 use Rattle.rig_play.specs.declared.status.Status.{Status}
 use Rattle.rig_play.specs.declared.status.Status.TheVariants.{Ok, NoMemory, Usage, ReadFault, WriteFault, Unbuilt}
 
@@ -10,3 +10,8 @@ code_of Usage = 2
 code_of ReadFault = 3
 code_of WriteFault = 4
 code_of Unbuilt = 20
+
+-- how the program ends: as its run did, or for want of memory where the run could not begin
+abbrev pub status_of : {E : Type 0} → Result Status E → Status
+status_of (ran status) = status
+status_of (refused e) = NoMemory

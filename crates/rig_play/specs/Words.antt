@@ -1,7 +1,7 @@
 -- Which command lines the program takes.
 use Rattle.std.specs.Prelude.{List, [], ◌∷◌, codes, Bool, false, String, string_bytes}
 use Rattle.std.specs.declared.alloc.Global.{Global}
-use Rattle.rig_scene.specs.Path.{same_text}
+use Rattle.rig_scene.specs.Text.{same_text}
 
 -- exactly two words: the program's name and `eval`
 abbrev pub is_eval : List (String Global) → Bool

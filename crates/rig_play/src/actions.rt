@@ -1,4 +1,4 @@
-// Reads actions: their curves and keys.
+//! Reads actions: their curves and keys.
 ghost use Rattle.std.specs.Prelude.{◌≡◌};
 ghost use Rattle.serde_json.specs.View.{view};
 ghost use Rattle.rig_play.specs.Unread.{Gives};

@@ -1,12 +1,13 @@
-// Tests the conditions of a scene, each at a cost in line with what it reads.
-ghost use Rattle.std.specs.Prelude.{◌≡◌, ◌≤◌, ◌-◌, ℕ, map, length, not, sum_by, int_lt, nat_lt, nat_le, true, SomeIff};
+//! Tests the conditions of a scene, each at a cost in line with what it reads.
+ghost use Rattle.std.specs.Prelude.{◌≡◌, ◌≤◌, ◌-◌, map, length, sum_by, int_lt, nat_lt, nat_le, true, SomeIff};
 ghost use Rattle.std.specs.List.{list_all, list_any};
 ghost use Rattle.std.specs.Option.{option_map_or};
 ghost use Rattle.rig_scene.specs.Distinct.{are_distinct, are_rising};
-ghost use Rattle.rig_scene.specs.Path.{channel_place, axis_place, same_text, same_path};
+ghost use Rattle.rig_scene.specs.Path.{same_path};
 ghost use Rattle.rig_scene.specs.WellFormed.{is_frame, are_keys, is_action, curve_count, key_count};
 
-use rig_scene::{Action, Axis, Channel, Curve, Key, Name, Object, Path};
+use rig_scene::limits::{MAX_CURVES, MAX_FRAME, MAX_KEYS, MIN_FRAME};
+use rig_scene::{Action, Curve, Key, Object, Path};
 
 /// Whether the frames of keys keep their limits and rise.
 pub(crate) fn are_keys(keys: &[Key]) -> bool
@@ -24,7 +25,7 @@ fn are_within(keys: &[Key]) -> bool
 fn is_frame(frame: i32) -> bool
     ensures { result ≡ is_frame frame }
 {
-    -1_000_000 <= frame && frame <= 1_000_000
+    MIN_FRAME <= frame && frame <= MAX_FRAME
 }
 
 fn are_rising(keys: &[Key]) -> bool
@@ -55,8 +56,8 @@ fn have_keys(curves: &[Curve]) -> bool
 fn have_paths_once(curves: &[Curve]) -> bool
     ensures { result ≡ are_distinct same_path (map (λ c. c.path) curves.now) }
 {
-    for (place, curve) in curves.iter().enumerate() {
-        if is_among(&curve.path, &curves[..place]) {
+    for (index, curve) in curves.iter().enumerate() {
+        if is_among(&curve.path, &curves[..index]) {
             return false;
         }
     }
@@ -66,58 +67,20 @@ fn have_paths_once(curves: &[Curve]) -> bool
 fn is_among(path: &Path, curves: &[Curve]) -> bool
     ensures { result ≡ list_any (λ c. same_path path.now c.path) curves.now }
 {
-    curves.iter().any(|curve| same_path(path, &curve.path))
+    curves.iter().any(|curve| is_same_path(path, &curve.path))
 }
 
-fn same_path(a: &Path, b: &Path) -> bool
+fn is_same_path(a: &Path, b: &Path) -> bool
     ensures { result ≡ same_path a.now b.now }
 {
-    match (a, b) {
-        (Path::Own(a), Path::Own(b)) => channel_place(*a) == channel_place(*b),
-        (Path::Bone(m, a), Path::Bone(n, b)) => same_name(m, n)
-            && channel_place(*a) == channel_place(*b),
-        (Path::Layer(m, a), Path::Layer(n, b)) => same_name(m, n)
-            && axis_place(*a) == axis_place(*b),
-        _ => false,
-    }
+    a == b
 }
 
-fn same_name(m: &Name, n: &Name) -> bool
-    ensures { result ≡ same_text m.now n.now }
-{
-    m.as_str() == n.as_str()
-}
-
-fn channel_place(channel: Channel) -> u8
-    ensures { result ≡ channel_place channel }
-{
-    match channel {
-        Channel::LocX => 0,
-        Channel::LocY => 1,
-        Channel::LocZ => 2,
-        Channel::RotW => 3,
-        Channel::RotX => 4,
-        Channel::RotY => 5,
-        Channel::RotZ => 6,
-        Channel::Scale => 7,
-    }
-}
-
-fn axis_place(axis: Axis) -> u8
-    ensures { result ≡ axis_place axis }
-{
-    match axis {
-        Axis::X => 0,
-        Axis::Y => 1,
-        Axis::Z => 2,
-    }
-}
-
-/// Whether the actions have at most 16,384 curves.
+/// Whether the actions have few enough curves.
 pub(crate) fn has_few_curves(actions: &[Action]) -> bool
-    ensures { result ≡ nat_le (curve_count actions.now) 16384 }
+    ensures { result ≡ nat_le (curve_count actions.now) MAX_CURVES }
 {
-    let mut room: usize = 16384;
+    let mut room = MAX_CURVES;
     for action in actions {
         if action.curves.len() > room {
             return false;
@@ -127,11 +90,11 @@ pub(crate) fn has_few_curves(actions: &[Action]) -> bool
     true
 }
 
-/// Whether the actions have at most 65,536 keys.
+/// Whether the actions have few enough keys.
 pub(crate) fn has_few_keys(actions: &[Action]) -> bool
-    ensures { result ≡ nat_le (key_count actions.now) 65536 }
+    ensures { result ≡ nat_le (key_count actions.now) MAX_KEYS }
 {
-    let mut room: usize = 65536;
+    let mut room = MAX_KEYS;
     for action in actions {
         match room_after(room, action.curves.as_slice()) {
             Some(left) => room = left,

@@ -1,13 +1,13 @@
-// The values of curves of constant keys at a frame (Blender Manual, F-curves).
-ghost use Rattle.std.specs.Prelude.{◌≡◌, ℕ, ◌≤◌, length, filter, take, IsTrue, int_le, Some, None, MatchOption, option_and_then, unwrap_or};
-ghost use Rattle.rig_scene.specs.declared.channel.Path.TheVariants.{Own};
+//! The values of curves of constant keys at a frame (Blender Manual, F-curves).
+ghost use Rattle.std.specs.Prelude.{◌≡◌, ◌≤◌, length, filter, take, int_le, IsTrue, Some, None, MatchOption, option_and_then, unwrap_or};
+ghost use Rattle.rig_scene.specs.declared.path.Path.TheVariants.{Own};
 ghost use Rattle.rig_scene.specs.Path.{same_path};
 ghost use Rattle.rig_scene.specs.WellFormed.{are_keys, is_action};
 ghost use Rattle.rig_play.specs.Scratch.{curve_value, curve_of, action_of};
 ghost use Rattle.rig_play.specs.Follows.{location_from};
 
 use rig_fixed::{Fx, V3};
-use rig_scene::{Action, Channel, Curve, Key, Object, Path, Scene};
+use rig_scene::{Action, Channel, Curve, Key, Object, Path, Scene, index_after};
 
 /// Where an object of a scene stands at a frame, given its original location.
 pub(crate) fn location_at(scene: &Scene, object: &Object, original: V3, frame: i32) -> V3
@@ -27,8 +27,8 @@ pub(crate) fn location_at(scene: &Scene, object: &Object, original: V3, frame: i
 fn object_action<'a>(scene: &'a Scene, object: &Object) -> Option<&'a Action>
     ensures { MatchOption result (action_of scene.now object.now ≡ None) (λ a. (action_of scene.now object.now ≡ Some a.now) × IsTrue (is_action a.now)) }
 {
-    let place = object.action?;
-    scene.actions.as_slice().get(place as usize)
+    let index = object.action?;
+    scene.actions.as_slice().get(index as usize)
 }
 
 // The number of an object's own channel at a frame.
@@ -69,16 +69,16 @@ fn value_at(curve: &Curve, frame: i32) -> Option<Fx>
     ensures { result ≡ curve_value curve.now frame }
 {
     let keys = curve.keys.as_slice();
-    let past = past_keys(keys, frame);
+    let past = count_until(keys, frame);
     let key = keys.get(past.saturating_sub(1))?;
     Some(key.value)
 }
 
 // The number of the keys that aren't after the frame. They come first.
-fn past_keys(keys: &[Key], frame: i32) -> usize
+fn count_until(keys: &[Key], frame: i32) -> usize
     requires { IsTrue (are_keys keys.now) }
     ensures within { result ≤ length keys.now }
     ensures past { filter (λ k. int_le k.frame frame) keys.now ≡ take result keys.now }
 {
-    keys.partition_point(|key| key.frame <= frame)
+    index_after(keys, frame)
 }

@@ -1,10 +1,11 @@
-// The plain incremental engine: keeps where each object stood, and evaluates again just what is flushed.
-ghost use Rattle.std.specs.Prelude.{◌≡◌, ◌<◌, ℕ, ◌+◌, ◌*◌, ◌≤◌, length, List, [], ◌∷◌, ◌++◌, map, IfOk, Bool, false, ◌&&◌, is_some, if◌then◌else◌};
+//! The plain incremental engine: keeps where each object stood, and evaluates again just what is flushed.
+ghost use Rattle.std.specs.Prelude.{◌≡◌, ◌<◌, ℕ, ◌+◌, ◌*◌, ◌≤◌, length, List, [], ◌∷◌, ◌++◌, map, IfOk, false, ◌&&◌, is_some, if◌then◌else◌};
+ghost use Rattle.rig_scene.specs.declared.limits.TheConstants.{MAX_OBJECTS};
 ghost use Rattle.rig_io.specs.Faults.{count_end};
 ghost use Rattle.rig_scene.specs.Scene.{SceneRecord};
 ghost use Rattle.rig_play.specs.declared.script.Step.{Step};
 ghost use Rattle.rig_play.specs.declared.script.Step.TheVariants.{Frame, SetLocation};
-ghost use Rattle.rig_play.specs.Edited.{after, with_axis};
+ghost use Rattle.rig_play.specs.Edited.{after};
 ghost use Rattle.rig_play.specs.Flush.{flushed};
 ghost use Rattle.rig_play.specs.Follows.{Follows, IsFor, is_first, is_moved, is_reached, object_ran, objects_ran, stand, all_stand};
 ghost use Rattle.rig_play.specs.Operations.{operations, object_operations};
@@ -60,16 +61,16 @@ impl Engine {
         })
     }
 
-    /// Takes an edit: sets one number of the original location of the object at a place.
+    /// Takes an edit: sets one number of the original location of the object at an index.
     pub(crate) fn set(&mut self, object: u32, axis: Axis, value: Fx)
         requires originals { object < length self.old.originals.items }
         requires marks { object < length self.old.marks.items }
         ensures follows { (base : SceneRecord) (steps : List Step) → Follows base steps self.old → Follows base (steps ++ SetLocation object axis value ∷ []) self.new }
         ensures sized { (count : ℕ) → IsFor count self.old → IsFor count self.new }
     {
-        let place = object as usize;
-        set_axis(&mut self.originals[place], axis, value);
-        self.marks[place] = true;
+        let index = object as usize;
+        axis.set_coordinate(&mut self.originals[index], value);
+        self.marks[index] = true;
     }
 
     /// Evaluates the scene at a frame: runs the flushed operations, each with one tick, and answers how many
@@ -102,24 +103,24 @@ impl Engine {
         ensures last { self.new.last ≡ self.old.last }
         ensures ticks { Y.count tally.new ≡ Y.count tally.old + result }
         ensures within { result ≤ 3 * length scene.now.objects }
-        ensures few { result ≤ 3 * 1024 }
+        ensures few { result ≤ 3 * MAX_OBJECTS }
         ensures sized { IsFor (length scene.now.objects) self.new }
     {
         let mut ran = 0;
-        for place in 0..scene.objects.len() {
-            let object = scene.objects.get(place);
-            let original = self.originals[place];
-            let marked = self.marks[place];
+        for index in 0..scene.objects.len() {
+            let object = scene.objects.get(index);
+            let original = self.originals[index];
+            let marked = self.marks[index];
             ran += run_object(
                 scene,
                 object,
                 original,
                 marked,
                 pass,
-                &mut self.kept[place],
+                &mut self.kept[index],
                 tally,
             );
-            self.marks[place] = false;
+            self.marks[index] = false;
         }
         ran
     }
@@ -213,21 +214,10 @@ fn run_animation<Y: Tally>(object: &Object, pass: Pass, tally: &mut Y) -> u32
     }
 }
 
-// Sets one number of a location.
-fn set_axis(location: &mut V3, axis: Axis, value: Fx)
-    ensures { location.new ≡ with_axis axis value location.old }
-{
-    match axis {
-        Axis::X => location.x = value,
-        Axis::Y => location.y = value,
-        Axis::Z => location.z = value,
-    }
-}
-
 /// The number of operations of a scene: 1, and 2 or 3 for each of its objects, of which there are at most 1,024.
 pub(crate) fn operation_count(scene: &Scene) -> u32
     ensures count { result ≡ length (operations scene.now) }
-    ensures objects { length scene.now.objects ≤ 1024 }
+    ensures objects { length scene.now.objects ≤ MAX_OBJECTS }
 {
     let mut count = 1;
     for object in scene.objects.as_slice() {
@@ -237,7 +227,7 @@ pub(crate) fn operation_count(scene: &Scene) -> u32
 }
 
 fn object_operation_count(object: &Object) -> u32
-    ensures operations { (place : ℕ) → result ≡ length (object_operations place object.now) }
+    ensures operations { (index : ℕ) → result ≡ length (object_operations index object.now) }
     ensures few { result ≤ 3 }
 {
     if object.action.is_some() { 3 } else { 2 }

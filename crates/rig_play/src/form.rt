@@ -1,10 +1,10 @@
-// Reads an input of the form that is played, from its bytes.
+//! Reads an input of the form that is played, from its bytes.
 ghost use Rattle.std.specs.Prelude.{◌≡◌, codes, map};
 ghost use Rattle.serde_json.specs.View.{view};
 ghost use Rattle.rig_play.specs.Unread.{Gives};
 ghost use Rattle.rig_play.specs.Form.{script_in, input_in, input_of};
 ghost use Rattle.rig_play.specs.Members.{member_in};
-ghost use Rattle.rig_play.specs.Scripted.{with_script};
+ghost use Rattle.rig_play.specs.WithScript.{with_script};
 
 use crate::members::{has_only, member};
 use crate::names::Names;
@@ -68,11 +68,11 @@ fn input_in(alloc: Global, value: &Value) -> Result<Input, Unread>
         return Err(Unread::OtherForm);
     }
     let (scene, objects) = scene_in(alloc, member("scene", value)?)?;
-    scripted(alloc, scene, &objects, value)
+    input_with_script(alloc, scene, &objects, value)
 }
 
 // The scene with the script of the value, which names the scene's objects.
-fn scripted(alloc: Global, scene: Scene, objects: &Names, value: &Value) -> Result<Input, Unread>
+fn input_with_script(alloc: Global, scene: Scene, objects: &Names, value: &Value) -> Result<Input, Unread>
     requires { map (λ o. o.name) scene.objects ≡ objects.now }
     ensures { Gives result (with_script scene (member_in (codes "script") (script_in objects.now) (view value.now))) }
 {

@@ -1,17 +1,18 @@
-// Reads what a JSON value holds: whole numbers, words, names, vectors and lists.
+//! Reads what a JSON value holds: whole numbers, words, names, vectors and lists.
 ghost use Rattle.std.specs.Prelude.{◌≡◌, ◌<◌, ℕ, Option, Some, None, MatchResult, length, map, string_bytes};
 ghost use Rattle.std.specs.List.{list_any, list_all};
 ghost use Rattle.std.specs.BTreeMap.{keys};
 ghost use Rattle.serde_json.specs.Data.{Data, item, no_items};
 ghost use Rattle.serde_json.specs.Find.{get};
 ghost use Rattle.serde_json.specs.View.{view, items_view};
-ghost use Rattle.rig_scene.specs.Path.{same_text};
+ghost use Rattle.rig_scene.specs.Text.{same_text};
 ghost use Rattle.rig_play.specs.Unread.{Gives};
 ghost use Rattle.rig_play.specs.Members.{has_only, whole_in, fixed_in, frame_in, name_in, has_text, is_text, vector_in, vector_of, each_from, list_in};
 
 use crate::form::Unread;
-use rig_fixed::{Fx, LIM, V3};
+use rig_fixed::{Fx, LIMIT, V3};
 use rig_io::List;
+use rig_scene::limits::{MAX_FRAME, MIN_FRAME};
 use rig_scene::{Name, NameStop};
 use serde_json::{Map, Value};
 use std::alloc::Global;
@@ -27,15 +28,15 @@ pub(crate) fn whole_in(least: i64, most: i64, value: &Value) -> Option<i64>
 pub(crate) fn fixed_in(value: &Value) -> Option<Fx>
     ensures { result ≡ fixed_in (view value.now) }
 {
-    let millionths = whole_in(-LIM, LIM, value)?;
+    let millionths = whole_in(-LIMIT, LIMIT, value)?;
     Some(Fx::of(millionths as i128))
 }
 
-/// A frame from -1,000,000 to 1,000,000.
+/// A frame within the limits.
 pub(crate) fn frame_in(value: &Value) -> Option<i32>
     ensures { result ≡ frame_in (view value.now) }
 {
-    let frame = whole_in(-1_000_000, 1_000_000, value)?;
+    let frame = whole_in(i64::from(MIN_FRAME), i64::from(MAX_FRAME), value)?;
     Some(frame as i32)
 }
 
@@ -123,7 +124,7 @@ fn is_among(text: &str, names: &[&str]) -> bool
     names.iter().any(|name| text == *name)
 }
 
-/// Reads the items of a list, each with its place.
+/// Reads the items of a list, each with its index.
 pub(crate) trait ItemReader {
     type Item: Drop;
 
@@ -131,9 +132,9 @@ pub(crate) trait ItemReader {
 
     ghost reads: { Self → ℕ → Data → Option Self.Item };
 
-    fn read(&self, alloc: Global, place: usize, value: &Value) -> Result<Self::Item, Unread>
-        requires { can_read self.now place }
-        ensures { Gives result (reads self.now place (view value.now)) };
+    fn read(&self, alloc: Global, index: usize, value: &Value) -> Result<Self::Item, Unread>
+        requires { can_read self.now index }
+        ensures { Gives result (reads self.now index (view value.now)) };
 }
 
 /// An array whose items can all be read.
@@ -142,7 +143,7 @@ pub(crate) fn list_in<R: ItemReader>(
     reader: &R,
     value: &Value,
 ) -> Result<List<R::Item>, Unread>
-    requires { (place : ℕ) → R.can_read reader.now place }
+    requires { (index : ℕ) → R.can_read reader.now index }
     ensures { Gives result (list_in (R.reads reader.now) (view value.now)) }
 {
     let Some(values) = value.as_array() else {
@@ -151,18 +152,18 @@ pub(crate) fn list_in<R: ItemReader>(
     items_in(alloc, reader, values.as_slice())
 }
 
-/// The items of a list, each read with its place.
+/// The items of a list, each read with its index.
 pub(crate) fn items_in<R: ItemReader>(
     alloc: Global,
     reader: &R,
     values: &[Value],
 ) -> Result<List<R::Item>, Unread>
-    requires { (place : ℕ) → place < length values.now → R.can_read reader.now place }
+    requires { (index : ℕ) → index < length values.now → R.can_read reader.now index }
     ensures { Gives result (each_from 0 (R.reads reader.now) (items_view values.now)) }
 {
     let mut items = Vec::new(alloc);
-    for (place, value) in values.iter().enumerate() {
-        items.push(reader.read(alloc, place, value)?)?;
+    for (index, value) in values.iter().enumerate() {
+        items.push(reader.read(alloc, index, value)?)?;
     }
     Ok(List::from(items))
 }

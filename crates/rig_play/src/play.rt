@@ -1,13 +1,14 @@
-// Plays an input: its steps in order, over the plain engine, each with its reply.
-ghost use Rattle.std.specs.Prelude.{◌≡◌, ℕ, ◌+◌, ◌*◌, ◌≤◌, ◌<◌, ◌^◌, List, [], ◌∷◌, ◌++◌, IsTrue, IfOk, OnOk, length, codes};
+//! Plays an input: its steps in order, over the plain engine, each with its reply.
+ghost use Rattle.std.specs.Prelude.{◌≡◌, ◌+◌, ◌*◌, ◌≤◌, ◌<◌, ◌^◌, List, [], ◌∷◌, ◌++◌, IsTrue, IfOk, OnOk, length, codes};
 ghost use Rattle.std.specs.List.{flat_map};
+ghost use Rattle.rig_scene.specs.declared.limits.TheConstants.{MAX_STEPS};
 ghost use Rattle.rig_io.specs.Faults.{count_end};
 ghost use Rattle.rig_play.specs.declared.script.Step.{Step};
 ghost use Rattle.rig_play.specs.declared.script.Step.TheVariants.{Frame};
 ghost use Rattle.rig_play.specs.Script.{is_step};
 ghost use Rattle.rig_play.specs.Operations.{operations};
 ghost use Rattle.rig_play.specs.Flush.{ran_at};
-ghost use Rattle.rig_play.specs.Text.{line_feed, turn_line, history_from, opening_text, frame_line, framed, accepted_line, reply_text};
+ghost use Rattle.rig_play.specs.Text.{line_feed, opening_text, frame_line, framed, accepted_line, reply_text};
 ghost use Rattle.rig_play.specs.Lines.{object_lines};
 ghost use Rattle.rig_play.specs.Follows.{Follows, IsFor};
 ghost use Rattle.rig_play.specs.Run.{text_of, ran_in};
@@ -29,6 +30,8 @@ pub(crate) fn play<Y: Tally>(
     requires room { Y.count tally.old ≤ 2 ^ 61 }
     ensures texts { IfOk result (λ texts. flat_map (λ t. t.items) texts.items ≡ text_of input.now) }
     ensures ticks { OnOk result (Y.count tally.new ≡ Y.count tally.old + ran_in input.now) }
+    ensures rises { Y.count tally.old ≤ Y.count tally.new }
+    ensures at_most { Y.count tally.new ≤ Y.count tally.old + ran_in input.now }
 {
     let steps = input.steps.as_slice();
     let mut texts = opening_texts(alloc, steps)?;
@@ -44,7 +47,7 @@ pub(crate) fn play<Y: Tally>(
 
 // The history, and the head of the track.
 fn opening_texts(alloc: Global, steps: &[Step]) -> Result<Vec<Vec<u8>>, NoMemory>
-    requires { length steps.now ≤ 4096 }
+    requires { length steps.now ≤ MAX_STEPS }
     ensures { IfOk result (λ texts. flat_map (λ t. t.items) texts.items ≡ opening_text steps.now) }
 {
     let history = history_text(alloc, steps)?;
@@ -120,7 +123,7 @@ fn frame_reply<Y: Tally>(
     frame_reply_text(alloc, scene, number, frame, ran, all, engine.locations())
 }
 
-// The reply to a frame step: so many operations ran of so many, and each object stands at the location in its place.
+// The reply to a frame step: so many operations ran of so many, and each object stands at the location at its index.
 fn frame_reply_text(
     alloc: Global,
     scene: &Scene,

@@ -1,4 +1,4 @@
-// Reads a scene, and tests its conditions.
+//! Reads a scene, and tests its conditions.
 ghost use Rattle.std.specs.Prelude.{◌≡◌, ◌≤◌, [], pos, IsTrue, Some, codes, is_some, length, map, option_map, option_and_then};
 ghost use Rattle.std.specs.List.{list_all};
 ghost use Rattle.serde_json.specs.View.{view};
@@ -19,12 +19,14 @@ use crate::members::{has_only, items_in, list_in, whole_in};
 use crate::names::{Names, distinct_names};
 use crate::objects::ObjectReader;
 use rig_io::List;
+use rig_scene::limits::{MAX_ACTIONS, MAX_OBJECTS};
 use rig_scene::{Action, Object, Scene};
 use serde_json::Value;
 use std::alloc::Global;
 
 /// A scene, and the names of its objects: `version`, which is 1, and where present the lists `actions` and
 /// `objects`. It has no armatures, pencils or drivers.
+#[tactic(auto, unfolding(rig_scene::specs::WellFormed::is_scene))]
 pub(crate) fn scene_in(alloc: Global, value: &Value) -> Result<(Scene, Names), Unread>
     ensures { Gives result (option_map named (scene_in (view value.now))) }
 {
@@ -47,13 +49,14 @@ fn has_version(value: &Value) -> bool
 }
 
 // The scene of these records, where the objects keep the conditions, and the names of the objects.
+#[tactic(auto, unfolding(rig_scene::specs::WellFormed::is_scene))]
 fn named_scene(
     alloc: Global,
     actions: List<Action>,
     objects: List<Object>,
 ) -> Result<(Scene, Names), Unread>
     requires actions { IsTrue (are_actions actions) }
-    requires objects { length objects ≤ 1024 }
+    requires objects { length objects ≤ MAX_OBJECTS }
     requires plain { IsTrue (list_all is_plain objects) }
     ensures { Gives result (option_map named (only_if (is_scene (scene_of actions objects)) (Some (scene_of actions objects)))) }
 {
@@ -83,7 +86,7 @@ fn actions_in(alloc: Global, value: &Value) -> Result<List<Action>, Unread>
 fn action_names(alloc: Global, actions: &[Action]) -> Result<Names, Unread>
     ensures { Gives result (only_if (are_actions actions.now) (Some (map (λ a. a.name) actions.now))) }
 {
-    if actions.len() > 2048
+    if actions.len() > MAX_ACTIONS
         || !has_few_curves(actions)
         || !has_few_keys(actions)
         || !are_each_actions(actions)
@@ -100,7 +103,7 @@ fn are_each_actions(actions: &[Action]) -> bool
 }
 
 fn objects_in(alloc: Global, actions: &Names, value: &Value) -> Result<List<Object>, Unread>
-    ensures { Gives result (option_and_then (at_most 1024) (member_or [] (codes "objects") (list_in (object_in actions.now)) (view value.now))) }
+    ensures { Gives result (option_and_then (at_most MAX_OBJECTS) (member_or [] (codes "objects") (list_in (object_in actions.now)) (view value.now))) }
 {
     match value.get("objects") {
         Some(objects) => few_objects_in(alloc, actions, objects),
@@ -109,12 +112,12 @@ fn objects_in(alloc: Global, actions: &Names, value: &Value) -> Result<List<Obje
 }
 
 fn few_objects_in(alloc: Global, actions: &Names, value: &Value) -> Result<List<Object>, Unread>
-    ensures { Gives result (option_and_then (at_most 1024) (list_in (object_in actions.now) (view value.now))) }
+    ensures { Gives result (option_and_then (at_most MAX_OBJECTS) (list_in (object_in actions.now) (view value.now))) }
 {
     let Some(values) = value.as_array() else {
         return Err(Unread::OtherForm);
     };
-    if values.len() > 1024 {
+    if values.len() > MAX_OBJECTS {
         return Err(Unread::OtherForm);
     }
     items_in(alloc, &ObjectReader { actions }, values.as_slice())
@@ -122,7 +125,7 @@ fn few_objects_in(alloc: Global, actions: &Names, value: &Value) -> Result<List<
 
 // The names of objects, where they keep the conditions in the scene of these records.
 fn object_names(alloc: Global, actions: &[Action], objects: &[Object]) -> Result<Names, Unread>
-    requires few { length objects.now ≤ 1024 }
+    requires few { length objects.now ≤ MAX_OBJECTS }
     requires plain { IsTrue (list_all is_plain objects.now) }
     ensures { Gives result (only_if (are_objects (scene_of actions.now objects.now)) (Some (map (λ o. o.name) objects.now))) }
 {

@@ -1,4 +1,4 @@
-// What the program plays: a scene, and the steps of its one track.
+//! What the program plays: a scene, and the steps of its one track.
 use rig_fixed::Fx;
 use rig_io::List;
 use rig_scene::{Axis, Scene};
@@ -9,11 +9,11 @@ use std::marker::Model;
 pub enum Step {
     /// The viewport evaluates the scene at this frame.
     Frame(i32),
-    /// Sets one original number of a location: the object at this place, the axis, and the number.
+    /// Sets one original number of a location: the object at this index, the axis, and the number.
     SetLocation(u32, Axis, Fx),
 }
 
-/// A scene and the steps of its one viewport track: at most 4,096, and each edit names the place of an object.
+/// A scene and the steps of its one viewport track: at most 4,096, and each edit names the index of an object.
 /// Contracts see it as the two.
 #[derive(Debug, Drop)]
 pub struct Input {

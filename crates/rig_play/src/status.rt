@@ -1,4 +1,4 @@
-// How a run ends.
+//! How a run ends.
 ghost use Rattle.std.specs.Prelude.{◌≡◌};
 ghost use Rattle.rig_play.specs.Status.{code_of};
 
@@ -13,7 +13,7 @@ pub enum Status {
     Usage,
     /// A read failed. Nothing was written.
     ReadFault,
-    /// A write failed. A front of the text was written.
+    /// A write failed. A prefix of the text was written.
     WriteFault,
     /// The input isn't one that this program can play yet. The fault line was written.
     Unbuilt,

@@ -1,4 +1,4 @@
-// Whole runs over sources and sinks in memory.
+//! Whole runs over sources and sinks in memory.
 ghost use Rattle.std.specs.Prelude.{◌<◌, IfOk};
 ghost use Rattle.rig_play.specs.Run.{AreTallies};
 
@@ -154,7 +154,7 @@ fn a_failed_read_writes_nothing(rt: HostRuntime) -> Result<(), Fail> {
 }
 
 #[test]
-fn a_failed_write_leaves_a_front(rt: HostRuntime) -> Result<(), Fail> {
+fn a_failed_write_leaves_a_prefix(rt: HostRuntime) -> Result<(), Fail> {
     let alloc = rt.alloc();
     let mut fails = Vec::new(alloc);
     fails.push(1)?;

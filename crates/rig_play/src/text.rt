@@ -1,7 +1,8 @@
-// The printed texts: each function adds to a text under construction.
-ghost use Rattle.std.specs.Prelude.{◌≡◌, ◌≤◌, ◌++◌, length, map, IfOk, OnOk, decimal};
+//! The printed texts: each function adds to a text under construction.
+ghost use Rattle.std.specs.Prelude.{◌≡◌, ◌≤◌, ◌++◌, length, IfOk, OnOk, decimal};
 ghost use Rattle.std.specs.Fmt.{signed_decimal};
 ghost use Rattle.std.specs.List.{flat_map};
+ghost use Rattle.rig_scene.specs.declared.limits.TheConstants.{MAX_STEPS};
 ghost use Rattle.rig_play.specs.Text.{spaced, transform_numbers, named_line, turn_line, ran_words, frame_line, accepted_line, frame_head, framed, history_from, reply_of};
 ghost use Rattle.rig_play.specs.Lines.{object_lines};
 ghost use Rattle.rig_play.specs.Scratch.{standing};
@@ -85,7 +86,7 @@ fn at_location(loc: V3) -> Xform
     }
 }
 
-// Adds a line for each object that stands at the location in its place.
+// Adds a line for each object that stands at the location at its index.
 fn push_object_lines(
     text: &mut Vec<u8>,
     objects: &[Object],
@@ -188,7 +189,7 @@ fn push_turn_line(text: &mut Vec<u8>, number: u32, step: Step) -> Result<(), NoM
 
 /// The history: a line for each turn, in order.
 pub(crate) fn history_text(alloc: Global, steps: &[Step]) -> Result<Vec<u8>, NoMemory>
-    requires { length steps.now ≤ 4096 }
+    requires { length steps.now ≤ MAX_STEPS }
     ensures { IfOk result (λ text. text.items ≡ flat_map turn_line (history_from 0 steps.now)) }
 {
     let mut text = Vec::new(alloc);

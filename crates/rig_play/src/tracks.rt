@@ -1,5 +1,5 @@
-// Reads a track: its steps.
-ghost use Rattle.std.specs.Prelude.{◌≡◌, length, option_map, option_and_then};
+//! Reads a track: its steps.
+ghost use Rattle.std.specs.Prelude.{◌≡◌, option_map, option_and_then};
 ghost use Rattle.std.specs.List.{list_all};
 ghost use Rattle.serde_json.specs.Find.{as_array};
 ghost use Rattle.serde_json.specs.View.{view};
@@ -10,9 +10,10 @@ ghost use Rattle.rig_play.specs.Form.{frame_step_in, set_step_in, step_in, track
 use crate::actions::axis_in;
 use crate::form::Unread;
 use crate::members::{ItemReader, fixed_in, frame_in, has_only, has_text, list_in, member};
-use crate::names::{Names, place_in};
+use crate::names::{Names, index_in};
 use crate::script::Step;
 use rig_io::List;
+use rig_scene::limits::MAX_STEPS;
 use serde_json::Value;
 use std::alloc::Global;
 
@@ -55,7 +56,7 @@ fn track_in(alloc: Global, objects: &Names, value: &Value) -> Result<List<Step>,
 fn are_steps(objects: usize, steps: &[Step]) -> bool
     ensures { result ≡ are_steps objects steps.now }
 {
-    steps.len() <= 4096 && are_in_scene(objects, steps)
+    steps.len() <= MAX_STEPS && are_in_scene(objects, steps)
 }
 
 fn are_in_scene(objects: usize, steps: &[Step]) -> bool
@@ -103,7 +104,7 @@ fn set_step_in(objects: &Names, value: &Value) -> Option<Step>
     {
         return None;
     }
-    let object = place_in(objects, value.get("object")?)?;
+    let object = index_in(objects, value.get("object")?)?;
     let axis = axis_in(value.get("channel")?)?;
     let number = fixed_in(value.get("value")?)?;
     Some(Step::SetLocation(object, axis, number))

@@ -1,4 +1,4 @@
-// The command line.
+//! The command line.
 ghost use Rattle.std.specs.Prelude.{◌≡◌};
 ghost use Rattle.rig_play.specs.Words.{is_eval};
 

@@ -1,12 +1,13 @@
-// Transforms of bones, in the space of their armature.
+//! Transforms of bones, in the space of their armature.
 ghost use Rattle.std.specs.Prelude.{◌≡◌, ℕ, ◌<◌, length, IsTrue};
 ghost use Rattle.std.specs.Option.{option_copied};
-ghost use Rattle.rig_fixed.specs.Rotate.{compose};
+ghost use Rattle.rig_fixed.specs.Transform.{compose};
 ghost use Rattle.rig_scene.specs.Pose.{carried_by, rest_through, rest_chain, deform_of};
-ghost use Rattle.rig_pose.specs.Bones.{have_earlier_parents};
+ghost use Rattle.rig_scene.specs.Facts.{have_earlier_parents};
 
 use crate::object::{local_of, world_of};
 use rig_fixed::{Xform, compose, inverse};
+use rig_io::List;
 use rig_scene::{ArmatureData, RestBone};
 
 /// A bone in the space of its armature, by its parent bone there, its rest and its pose: the pose within the rest,
@@ -30,16 +31,16 @@ pub fn rest_chain(armature: &ArmatureData, bone: u32) -> Xform
     requires parents { IsTrue (have_earlier_parents armature.now.bones) }
     ensures { result ≡ rest_chain armature.now.bones bone }
 {
-    rest_of(armature.bones.as_slice(), bone)
+    rest_of(&armature.bones, bone)
 }
 
-// A bone at rest, through as many bones as it takes.
-fn rest_of(bones: &[RestBone], number: u32) -> Xform
-    requires number { number < length bones.now }
+/// A bone at rest, through as many bones as it takes.
+fn rest_of(bones: &List<RestBone>, index: u32) -> Xform
+    requires index { index < length bones.now }
     requires parents { IsTrue (have_earlier_parents bones.now) }
-    ensures { (depth : ℕ) → number < depth → result ≡ rest_through depth bones.now number }
+    ensures { (depth : ℕ) → index < depth → result ≡ rest_through depth bones.now index }
 {
-    let bone = &bones[number as usize];
+    let bone = bones.get(index as usize);
     let local = local_of(&bone.rest);
     match bone.parent {
         Some(parent) => compose(&rest_of(bones, parent), &local),

@@ -1,4 +1,4 @@
-// Transforms of objects: of their eight numbers, and in the space of what carries them.
+//! Transforms of objects: of their eight numbers, and in the space of what carries them.
 ghost use Rattle.std.specs.Prelude.{◌≡◌, pos};
 ghost use Rattle.std.specs.Int.{int_max};
 ghost use Rattle.std.specs.Option.{option_copied};
@@ -14,15 +14,15 @@ pub fn local_of(c: &Channels) -> Xform
     Xform {
         loc: c.loc,
         rot: Quat::normal(c.rot),
-        scale: at_least_1(c.scale),
+        scale: positive_scale(c.scale),
     }
 }
 
 /// A scale that is at least 1.
-fn at_least_1(scale: Fx) -> Fx
+fn positive_scale(scale: Fx) -> Fx
     ensures { result ≡ int_max (pos 1) scale }
 {
-    scale.max(Fx::clamped(1))
+    scale.max(Fx::new(1))
 }
 
 /// The transform `local` within the space of a parent, where there is one.

@@ -3,7 +3,7 @@ use Rattle.std.proofs.Common.{◌≡◌, ◌≢◌, ℕ, zero, suc, List, [], �
 use Rattle.std.specs.List.{find, All, Any, Contains}
 use Rattle.std.proofs.lemmas.Slice.Eq.{bytes_eq-Decides}
 use Rattle.rig_scene.specs.declared.object.Object.{Object}
-use Rattle.rig_scene.specs.Path.{same_text}
+use Rattle.rig_scene.specs.Text.{same_text}
 use Rattle.rig_scene.specs.Find.{id_named}
 
 module _ {X : Type 0} (p : X → Bool) where

@@ -1,23 +1,69 @@
--- The number of a channel: what its driver gives, else its curve at the frame, else the original number.
-use Rattle.std.specs.Prelude.{ℕ, List, slice_get, Option, None, option_map, option_and_then, unwrap_or, ℤ, pos}
-use Rattle.std.specs.Option.{option_or}
-use Rattle.std.specs.List.{find, position}
-use Rattle.rig_fixed.specs.declared.transform.V3.{V3}
-use Rattle.rig_scene.specs.declared.channel.AnimId.{AnimId}
-use Rattle.rig_scene.specs.declared.channel.AnimId.TheVariants as anim
+-- The channels and axes in order, their words, and the number of each.
+use Rattle.std.specs.Prelude.{ℕ, ℤ, List, [], ◌∷◌, Bool, true, false, Option, codes}
+use Rattle.std.specs.List.{find}
+use Rattle.rig_fixed.specs.Transform.{Transform}
+use Rattle.rig_fixed.specs.declared.vector.V3.{V3}
 use Rattle.rig_scene.specs.declared.channel.Axis.{Axis}
 use Rattle.rig_scene.specs.declared.channel.Axis.TheVariants.{X, Y, Z}
 use Rattle.rig_scene.specs.declared.channel.Channel.{Channel}
 use Rattle.rig_scene.specs.declared.channel.Channel.TheVariants.{LocX, LocY, LocZ, RotW, RotX, RotY, RotZ, Scale}
 use Rattle.rig_scene.specs.declared.channel.Channels.{Channels}
-use Rattle.rig_scene.specs.declared.channel.Path.{Path}
-use Rattle.rig_scene.specs.declared.channel.Path.TheVariants.{Own, Bone, Layer}
-use Rattle.rig_scene.specs.declared.action.Action.{Action}
-use Rattle.rig_scene.specs.declared.object.Kind.{Kind}
-use Rattle.rig_scene.specs.declared.object.Kind.TheVariants.{Empty, Armature, Pencil}
-use Rattle.rig_scene.specs.Curve.{curve_at}
-use Rattle.rig_scene.specs.Path.{same_text, same_path}
-use Rattle.rig_scene.specs.Scene.{SceneRecord, object_of, armature_of}
+use Rattle.rig_scene.specs.Text.{same_text}
+
+-- the eight channels, in order
+abbrev pub channels : List Channel
+channels = LocX ∷ LocY ∷ LocZ ∷ RotW ∷ RotX ∷ RotY ∷ RotZ ∷ Scale ∷ []
+
+-- the three axes, in order
+abbrev pub axes : List Axis
+axes = X ∷ Y ∷ Z ∷ []
+
+-- ---- which are the same
+
+abbrev pub same_channel : Channel → Channel → Bool
+same_channel LocX LocX = true
+same_channel LocY LocY = true
+same_channel LocZ LocZ = true
+same_channel RotW RotW = true
+same_channel RotX RotX = true
+same_channel RotY RotY = true
+same_channel RotZ RotZ = true
+same_channel Scale Scale = true
+same_channel a b = false
+
+abbrev pub same_axis : Axis → Axis → Bool
+same_axis X X = true
+same_axis Y Y = true
+same_axis Z Z = true
+same_axis a b = false
+
+-- ---- words
+
+-- the word of a channel
+abbrev pub channel_word : Channel → List ℕ
+channel_word LocX = codes "loc.x"
+channel_word LocY = codes "loc.y"
+channel_word LocZ = codes "loc.z"
+channel_word RotW = codes "rot.w"
+channel_word RotX = codes "rot.x"
+channel_word RotY = codes "rot.y"
+channel_word RotZ = codes "rot.z"
+channel_word Scale = codes "scale"
+
+-- the word of the axis of an offset
+abbrev pub axis_word : Axis → List ℕ
+axis_word X = codes "offset.x"
+axis_word Y = codes "offset.y"
+axis_word Z = codes "offset.z"
+
+-- the channel, or the axis, of a word
+abbrev pub channel_named : List ℕ → Option Channel
+channel_named word = find (λ c. same_text (channel_word c) word) channels
+
+abbrev pub axis_named : List ℕ → Option Axis
+axis_named word = find (λ a. same_text (axis_word a) word) axes
+
+-- ---- numbers
 
 -- one of eight numbers
 abbrev pub channel_of : Channels → Channel → ℤ
@@ -29,6 +75,17 @@ channel_of c RotX = c.rot.x
 channel_of c RotY = c.rot.y
 channel_of c RotZ = c.rot.z
 channel_of c Scale = c.scale
+
+-- eight numbers, one of them changed
+abbrev pub with_channel : Channels → Channel → ℤ → Channels
+with_channel c LocX value = record c { loc = record c.loc { x = value } }
+with_channel c LocY value = record c { loc = record c.loc { y = value } }
+with_channel c LocZ value = record c { loc = record c.loc { z = value } }
+with_channel c RotW value = record c { rot = record c.rot { w = value } }
+with_channel c RotX value = record c { rot = record c.rot { x = value } }
+with_channel c RotY value = record c { rot = record c.rot { y = value } }
+with_channel c RotZ value = record c { rot = record c.rot { z = value } }
+with_channel c Scale value = record c { scale = value }
 
 -- the eight numbers that a function gives
 abbrev pub channels_by : (Channel → ℤ) → Channels
@@ -44,52 +101,23 @@ coordinate_of v X = v.x
 coordinate_of v Y = v.y
 coordinate_of v Z = v.z
 
--- the place that a function gives
+-- three coordinates, one of them changed
+abbrev pub with_coordinate : V3 → Axis → ℤ → V3
+with_coordinate v X value = record v { x = value }
+with_coordinate v Y value = record v { y = value }
+with_coordinate v Z value = record v { z = value }
+
+-- the vector that a function gives
 abbrev pub v3_by : (Axis → ℤ) → V3
 v3_by number = record { x = number X; y = number Y; z = number Z }
 
--- the original pose of the bone of a number
-abbrev pub pose_of : Kind → ℕ → Option Channels
-pose_of Empty bone = None
-pose_of (Armature armature pose) bone = slice_get pose bone
-pose_of (Pencil pencil modifiers) bone = None
-
--- the original pose of the bone of a name
-abbrev pub pose_named : SceneRecord → Kind → List ℕ → Option Channels
-pose_named scene kind name =
-    option_and_then (pose_of kind)
-    (option_and_then (λ a. position (λ b. same_text b.name name) a.bones) (armature_of scene kind))
-
--- the original number of a path, where the id has it
-unfoldable pub original_number : SceneRecord → AnimId → Path → Option ℤ
-original_number scene (anim.Object o) (Own channel) = option_map (λ object. channel_of object.own channel) (object_of scene o)
-original_number scene (anim.Object o) (Bone name channel) =
-    option_and_then (λ object. option_map (λ pose. channel_of pose channel) (pose_named scene object.kind name)) (object_of scene o)
-original_number scene (anim.Object o) (Layer name axis) = None
-original_number scene (anim.Pencil p) (Own channel) = None
-original_number scene (anim.Pencil p) (Bone name channel) = None
-original_number scene (anim.Pencil p) (Layer name axis) =
-    option_and_then (λ pencil. option_map (λ layer. coordinate_of layer.offset axis) (find (λ l. same_text l.name name) pencil.layers))
-    (slice_get scene.pencils p)
-
--- the action of an id, if it has one
-abbrev pub action_of : SceneRecord → AnimId → Option Action
-action_of scene (anim.Object o) = option_and_then (λ object. option_and_then (slice_get scene.actions) object.action) (object_of scene o)
-action_of scene (anim.Pencil p) = option_and_then (λ pencil. option_and_then (slice_get scene.actions) pencil.action) (slice_get scene.pencils p)
-
--- what the curve of a path in an action gives at a frame, if there is one with keys
-abbrev pub action_at : Action → Path → ℤ → Option ℤ
-action_at action path frame = option_and_then (λ c. curve_at c.keys frame) (find (λ c. same_path c.path path) action.curves)
-
--- what the curve of a path in the id's action gives at a frame
-unfoldable pub animated_number : SceneRecord → ℤ → AnimId → Path → Option ℤ
-animated_number scene frame id path = option_and_then (λ action. action_at action path frame) (action_of scene id)
-
--- the number of a channel: what its driver gives, else what its curve gives, else the original number
-abbrev pub number_by : Option ℤ → Option ℤ → ℤ → ℤ
-number_by driven animated original = unwrap_or (option_or driven animated) original
-
--- the number of the channel of a path of an id, by what its driver gives where it has one
-abbrev pub number_of : SceneRecord → ℤ → AnimId → Path → Option ℤ → ℤ
-number_of scene frame id path driven =
-    number_by driven (animated_number scene frame id path) (unwrap_or (original_number scene id path) (pos 0))
+-- one of the eight numbers of a transform
+abbrev pub transform_number : Transform → Channel → ℤ
+transform_number t LocX = t.loc.x
+transform_number t LocY = t.loc.y
+transform_number t LocZ = t.loc.z
+transform_number t RotW = t.rot.w
+transform_number t RotX = t.rot.x
+transform_number t RotY = t.rot.y
+transform_number t RotZ = t.rot.z
+transform_number t Scale = t.scale

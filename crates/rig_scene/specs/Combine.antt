@@ -4,6 +4,7 @@ use Rattle.std.specs.List.{fold, reduce}
 use Rattle.std.specs.Int.{int_min, int_max}
 use Rattle.rig_fixed.specs.Fixed.{clamp}
 use Rattle.rig_fixed.specs.Number.{rdiv}
+use Rattle.rig_scene.specs.declared.driver.Driver.{Driver}
 use Rattle.rig_scene.specs.declared.driver.DriverKind.{DriverKind}
 use Rattle.rig_scene.specs.declared.driver.DriverKind.TheVariants.{Average, Sum, Min, Max}
 
@@ -17,3 +18,7 @@ combine Average numbers = rdiv (total_of numbers) (pos (length numbers))
 combine Sum numbers = clamp (total_of numbers)
 combine Min numbers = unwrap_or (reduce int_min numbers) (pos 0)
 combine Max numbers = unwrap_or (reduce int_max numbers) (pos 0)
+
+-- the number that a driver makes of its variables' numbers
+abbrev pub driver_value : Driver → List ℤ → ℤ
+driver_value driver numbers = combine driver.kind numbers

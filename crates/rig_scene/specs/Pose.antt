@@ -1,28 +1,15 @@
 -- Transforms of objects and bones, by what carries them, and how a bone deforms what is bound to it.
-use Rattle.std.specs.Prelude.{ℕ, zero, suc, List, length, slice_get, Option, Some, None, option_map, ℤ, pos}
+use Rattle.std.specs.Prelude.{ℕ, zero, suc, List, length, slice_get, Option, Some, None, option_map, pos}
 use Rattle.std.specs.Option.{option_map_or}
 use Rattle.std.specs.Int.{int_max}
-use Rattle.rig_fixed.specs.Transform.{Transform, identity}
-use Rattle.rig_fixed.specs.Rotate.{normal, compose, inverse}
-use Rattle.rig_scene.specs.declared.channel.Channel.{Channel}
-use Rattle.rig_scene.specs.declared.channel.Channel.TheVariants.{LocX, LocY, LocZ, RotW, RotX, RotY, RotZ, Scale}
+use Rattle.rig_fixed.specs.Rotation.{normal}
+use Rattle.rig_fixed.specs.Transform.{Transform, identity, compose, inverse}
 use Rattle.rig_scene.specs.declared.channel.Channels.{Channels}
 use Rattle.rig_scene.specs.declared.armature.RestBone.{RestBone}
 
 -- the transform of eight numbers: the rotation brought to one unit, the scale at least 1
 abbrev pub transform_of : Channels → Transform
 transform_of c = record { loc = c.loc; rot = normal c.rot; scale = int_max (pos 1) c.scale }
-
--- one of the eight numbers of a transform
-abbrev pub transform_number : Transform → Channel → ℤ
-transform_number t LocX = t.loc.x
-transform_number t LocY = t.loc.y
-transform_number t LocZ = t.loc.z
-transform_number t RotW = t.rot.w
-transform_number t RotX = t.rot.x
-transform_number t RotY = t.rot.y
-transform_number t RotZ = t.rot.z
-transform_number t Scale = t.scale
 
 -- a transform within the space of what carries it, if anything does
 abbrev pub carried_by : Option Transform → Transform → Transform
@@ -40,13 +27,14 @@ bone_transform parent rest pose = carried_by parent (compose (transform_of rest)
 
 -- a bone at rest in the armature's space, through at most so many bones
 abbrev pub rest_through : ℕ → List RestBone → ℕ → Transform
-rest_through zero bones number = identity
-rest_through (suc depth) bones number =
-    option_map_or (λ bone. carried_by (option_map (rest_through depth bones) bone.parent) (transform_of bone.rest)) (slice_get bones number) identity
+rest_through zero bones index = identity
+rest_through (suc depth) bones index =
+    option_map_or (λ bone. carried_by (option_map (rest_through depth bones) bone.parent) (transform_of bone.rest))
+    (slice_get bones index) identity
 
 -- a bone at rest in the armature's space: its rest, carried by that of its parent. Each parent is an earlier bone
 abbrev pub rest_chain : List RestBone → ℕ → Transform
-rest_chain bones number = rest_through (length bones) bones number
+rest_chain bones index = rest_through (length bones) bones index
 
 -- where a bone takes what is bound to it: from its rest to where it stands
 abbrev pub deform_of : Transform → Transform → Transform

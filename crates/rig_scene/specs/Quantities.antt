@@ -2,11 +2,11 @@
 use Rattle.std.specs.Prelude.{ℕ, zero, suc, ◌+◌, ◌==◌, ◌&&◌, List, [], ◌∷◌, ◌++◌, length, map, slice_get, Bool, true, false, Option, Some, None, option_and_then, if◌then◌else◌}
 use Rattle.std.specs.Option.{option_map_or}
 use Rattle.std.specs.List.{flat_map, range_with_len, enumerate_from}
-use Rattle.rig_scene.specs.declared.channel.AnimId.{AnimId}
-use Rattle.rig_scene.specs.declared.channel.AnimId.TheVariants as anim
-use Rattle.rig_scene.specs.declared.channel.ObjectId.{ObjectId}
-use Rattle.rig_scene.specs.declared.channel.Path.{Path}
-use Rattle.rig_scene.specs.declared.channel.Path.TheVariants as path
+use Rattle.rig_scene.specs.declared.id.AnimId.{AnimId}
+use Rattle.rig_scene.specs.declared.id.AnimId.TheVariants as anim
+use Rattle.rig_scene.specs.declared.id.ObjectId.{ObjectId}
+use Rattle.rig_scene.specs.declared.path.Path.{Path}
+use Rattle.rig_scene.specs.declared.path.Path.TheVariants as path
 use Rattle.rig_scene.specs.declared.armature.RestBone.{RestBone}
 use Rattle.rig_scene.specs.declared.pencil.PencilData.{PencilData}
 use Rattle.rig_scene.specs.declared.pencil.Layer.{Layer as LayerRecord}
@@ -24,10 +24,12 @@ use Rattle.rig_scene.specs.declared.driver.Variable.TheVariants.{Property, Trans
 use Rattle.rig_scene.specs.declared.quantity.Quantity.{Quantity}
 use Rattle.rig_scene.specs.declared.quantity.Quantity.TheVariants.{Chan, Local, World, Bone, Layer, Geom}
 use Rattle.rig_scene.specs.declared.quantity.Read.{Read}
+use Rattle.rig_scene.specs.Channel.{channels, axes}
+use Rattle.rig_scene.specs.Drivers.{drivers_of, driver_of, is_driven, driven_paths}
+use Rattle.rig_scene.specs.Id.{same_object, same_id}
 use Rattle.rig_scene.specs.Path.{same_path}
-use Rattle.rig_scene.specs.Scene.{SceneRecord, same_object, object_of}
-use Rattle.rig_scene.specs.WellFormed.{same_id, bones_of}
-use Rattle.rig_scene.specs.Drivers.{drivers_of, driver_of, is_driven, driven, channels, axes}
+use Rattle.rig_scene.specs.Scene.{SceneRecord, object_of}
+use Rattle.rig_scene.specs.WellFormed.{bones_of}
 
 -- whether two quantities are the same
 abbrev pub same_quantity : Quantity → Quantity → Bool
@@ -45,7 +47,7 @@ same_quantity a b = false
 abbrev pub chans_of : SceneRecord → AnimId → List Quantity
 chans_of scene id = map (λ d. Chan d.id d.path) (drivers_of scene id)
 
--- the quantities of the pencil of a number: its driven channels, then its layers
+-- the quantities of the pencil of an index: its driven channels, then its layers
 abbrev pub pencil_quantities : SceneRecord → ℕ → PencilData → List Quantity
 pencil_quantities scene p pencil = chans_of scene (anim.Pencil p) ++ map (Layer p) (range_with_len 0 (length pencil.layers))
 
@@ -59,7 +61,7 @@ kind_quantities o (kind.Pencil pencil modifiers) = map (Geom o) (range_with_len 
 abbrev pub object_quantities : SceneRecord → Object → List Quantity
 object_quantities scene o = chans_of scene (anim.Object o.id) ++ Local o.id ∷ World o.id ∷ kind_quantities o.id o.kind
 
--- the quantities of a scene: those of its pencils by their numbers, then those of its objects
+-- the quantities of a scene: those of its pencils in order, then those of its objects
 abbrev pub quantities : SceneRecord → List Quantity
 quantities scene =
     flat_map (λ e. pencil_quantities scene e.0 e.1) (enumerate_from 0 scene.pencils) ++ flat_map (object_quantities scene) scene.objects
@@ -67,12 +69,12 @@ quantities scene =
 -- ---- the reads
 
 -- a read that can't close a cycle
-abbrev pub inner : Quantity → Read
-inner q = record { source = q; reference = false }
+abbrev pub inner_read : Quantity → Read
+inner_read q = record { source = q; reference = false }
 
 -- a read that may
-abbrev pub reference : Quantity → Read
-reference q = record { source = q; reference = true }
+abbrev pub reference_read : Quantity → Read
+reference_read q = record { source = q; reference = true }
 
 -- the transform of an object that a space names
 abbrev pub space_quantity : ObjectId → Space → Quantity
@@ -82,32 +84,36 @@ space_quantity o (space.Pose bone) = Bone o bone
 
 -- what a variable reads: a driven channel, or a transform; a channel that isn't driven is read off the records
 abbrev pub variable_reads : SceneRecord → Variable → List Read
-variable_reads scene (Property id p) = if is_driven scene id p then reference (Chan id p) ∷ [] else []
-variable_reads scene (Transform o space channel) = reference (space_quantity o space) ∷ []
+variable_reads scene (Property id p) = if is_driven scene id p then reference_read (Chan id p) ∷ [] else []
+variable_reads scene (Transform o space channel) = reference_read (space_quantity o space) ∷ []
 
 -- the driven ones of an id's paths
 abbrev pub driven_reads : SceneRecord → AnimId → List Path → List Read
-driven_reads scene id paths = map (λ p. inner (Chan id p)) (driven scene id paths)
+driven_reads scene id paths = map (λ p. inner_read (Chan id p)) (driven_paths scene id paths)
 
 -- what carries an object: its parent, and then the bone of the parent, where there are such
 abbrev pub parent_reads : Option Parent → List Read
 parent_reads None = []
-parent_reads (Some parent) = reference (World parent.object) ∷ option_map_or (λ b. reference (Bone parent.object b) ∷ []) parent.bone []
+parent_reads (Some parent) =
+    reference_read (World parent.object) ∷ option_map_or (λ b. reference_read (Bone parent.object b) ∷ []) parent.bone []
 
 -- the reads of a bone of an object: its driven channels, then its parent bone
 abbrev pub bone_reads : SceneRecord → ObjectId → RestBone → List Read
 bone_reads scene o bone =
-    driven_reads scene (anim.Object o) (map (path.Bone bone.name) channels) ++ option_map_or (λ b. inner (Bone o b) ∷ []) bone.parent []
+    driven_reads scene (anim.Object o) (map (path.Bone bone.name) channels)
+    ++ option_map_or (λ b. inner_read (Bone o b) ∷ []) bone.parent []
 
 -- the reads of a layer of a pencil: its driven offsets, then the bone that it is bound to
 abbrev pub layer_reads : SceneRecord → ℕ → LayerRecord → List Read
 layer_reads scene p layer =
-    driven_reads scene (anim.Pencil p) (map (path.Layer layer.name) axes) ++ option_map_or (λ b. reference (Bone b.object b.bone) ∷ []) layer.bound []
+    driven_reads scene (anim.Pencil p) (map (path.Layer layer.name) axes)
+    ++ option_map_or (λ b. reference_read (Bone b.object b.bone) ∷ []) layer.bound []
 
--- what a modifier of an object reads beside the strokes: for a mirror with a centre the own place, then the centre's
+-- what a modifier of an object reads beside the strokes: for a mirror with a centre the world transform of the object, then
+-- that of the centre
 abbrev pub effect_reads : ObjectId → Effect → List Read
 effect_reads o (Offset loc scale) = []
-effect_reads o (Mirror mirror) = option_map_or (λ centre. inner (World o) ∷ reference (World centre) ∷ []) mirror.centre []
+effect_reads o (Mirror mirror) = option_map_or (λ centre. inner_read (World o) ∷ reference_read (World centre) ∷ []) mirror.centre []
 effect_reads o (Array count offset) = []
 
 -- the modifiers of an object's kind
@@ -124,15 +130,17 @@ geometry_reads scene o zero =
     kind_layers : List PencilData → Kind → List Read
     kind_layers pencils kind.Empty = []
     kind_layers pencils (kind.Armature armature pose) = []
-    kind_layers pencils (kind.Pencil p modifiers) = option_map_or (λ pencil. map (λ l. inner (Layer p l)) (range_with_len 0 (length pencil.layers))) (slice_get pencils p) []
+    kind_layers pencils (kind.Pencil p modifiers) =
+        option_map_or (λ pencil. map (λ l. inner_read (Layer p l)) (range_with_len 0 (length pencil.layers))) (slice_get pencils p) []
 geometry_reads scene o (suc i) =
-    inner (Geom o.id i) ∷ option_map_or (λ m. effect_reads o.id m.effect) (slice_get (modifiers_of o.kind) i) []
+    inner_read (Geom o.id i) ∷ option_map_or (λ m. effect_reads o.id m.effect) (slice_get (modifiers_of o.kind) i) []
 
 -- the reads of a quantity, in order
 abbrev pub reads : SceneRecord → Quantity → List Read
 reads scene (Chan id p) = option_map_or (λ d. flat_map (variable_reads scene) d.variables) (driver_of scene id p) []
 reads scene (Local o) = driven_reads scene (anim.Object o) (map path.Own channels)
-reads scene (World o) = inner (Local o) ∷ option_map_or (λ object. parent_reads object.parent) (object_of scene o) []
+reads scene (World o) = inner_read (Local o) ∷ option_map_or (λ object. parent_reads object.parent) (object_of scene o) []
 reads scene (Bone o b) = option_map_or (bone_reads scene o) (option_and_then (λ bones. slice_get bones b) (bones_of scene o)) []
-reads scene (Layer p l) = option_map_or (layer_reads scene p) (option_and_then (λ pencil. slice_get pencil.layers l) (slice_get scene.pencils p)) []
+reads scene (Layer p l) =
+    option_map_or (layer_reads scene p) (option_and_then (λ pencil. slice_get pencil.layers l) (slice_get scene.pencils p)) []
 reads scene (Geom o i) = option_map_or (λ object. geometry_reads scene object i) (object_of scene o) []

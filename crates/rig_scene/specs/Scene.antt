@@ -1,7 +1,7 @@
 -- A scene as the record of its lists, and how its records are found.
-use Rattle.std.specs.Prelude.{ℕ, ◌==◌, List, slice_get, Bool, Option, None}
+use Rattle.std.specs.Prelude.{ℕ, List, slice_get, Option, None}
 use Rattle.std.specs.List.{find}
-use Rattle.rig_scene.specs.declared.channel.ObjectId.{ObjectId}
+use Rattle.rig_scene.specs.declared.id.ObjectId.{ObjectId}
 use Rattle.rig_scene.specs.declared.action.Action.{Action}
 use Rattle.rig_scene.specs.declared.armature.ArmatureData.{ArmatureData}
 use Rattle.rig_scene.specs.declared.pencil.PencilData.{PencilData}
@@ -9,6 +9,7 @@ use Rattle.rig_scene.specs.declared.object.Kind.{Kind}
 use Rattle.rig_scene.specs.declared.object.Kind.TheVariants.{Empty, Armature, Pencil}
 use Rattle.rig_scene.specs.declared.object.Object.{Object}
 use Rattle.rig_scene.specs.declared.driver.Driver.{Driver}
+use Rattle.rig_scene.specs.Id.{same_object}
 
 pub record SceneRecord : Type 0 where
   pub actions : List Action
@@ -17,10 +18,6 @@ pub record SceneRecord : Type 0 where
   pub objects : List Object
   pub drivers : List Driver
   pub next : ℕ
-
--- whether two ids are of one object
-abbrev pub same_object : ObjectId → ObjectId → Bool
-same_object a b = a.0 == b.0
 
 -- the object of an id
 abbrev pub object_of : SceneRecord → ObjectId → Option Object

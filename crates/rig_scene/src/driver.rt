@@ -1,8 +1,10 @@
-// Drivers: channels that follow others.
-use crate::channel::{AnimId, Channel, ObjectId, Path};
+//! Drivers: channels that follow others (Blender Manual, Drivers).
+use crate::channel::Channel;
+use crate::id::{AnimId, ObjectId};
+use crate::path::Path;
 use rig_io::List;
 
-/// How a driver makes one number of its variables (Blender Manual, Drivers).
+/// How a driver makes one number of its variables.
 #[derive(Clone, Copy, Debug, PartialEq, Eq)]
 pub enum DriverKind {
     Average,
@@ -12,7 +14,7 @@ pub enum DriverKind {
 }
 
 /// Which transform of an object a variable reads: its world one, its local one, or that of a bone by its
-/// number, in the armature's space.
+/// index, in the armature's space.
 #[derive(Clone, Copy, Debug, PartialEq, Eq)]
 pub enum Space {
     World,
@@ -21,7 +23,7 @@ pub enum Space {
 }
 
 /// What a driver reads.
-#[derive(Debug, Drop)]
+#[derive(Clone, Debug, Drop, PartialEq, Eq)]
 pub enum Variable {
     /// The evaluated number of a channel.
     Property {
@@ -37,7 +39,7 @@ pub enum Variable {
 }
 
 /// The channel that is driven, and by what: 1 to 8 variables.
-#[derive(Debug, Drop)]
+#[derive(Clone, Debug, Drop, PartialEq, Eq)]
 pub struct Driver {
     pub id: AnimId,
     pub path: Path,

@@ -1,9 +1,9 @@
-// How an object is found by its name.
+//! How an object is found by its name.
 ghost use Rattle.std.specs.Prelude.{◌≡◌, ◌≢◌, IfSome, IfNone};
 ghost use Rattle.std.specs.List.{All, Any};
 ghost use Rattle.rig_scene.specs.Find.{id_named};
 
-use crate::channel::ObjectId;
+use crate::id::ObjectId;
 use crate::name::Name;
 use crate::object::Object;
 use crate::scene::Scene;

@@ -1,5 +1,5 @@
-// Modifiers of a pencil object's geometry.
-use crate::channel::ObjectId;
+//! Modifiers of a pencil object's geometry (Blender Manual, Grease Pencil, Modifiers).
+use crate::id::ObjectId;
 use crate::name::Name;
 use rig_fixed::{Fx, V3};
 
@@ -10,7 +10,7 @@ pub enum Mode {
     Render,
 }
 
-/// Axes to mirror on, and the object at whose place to mirror, else the own place.
+/// Axes to mirror on, and the object at whose location to mirror, else the origin of the object itself.
 #[derive(Clone, Copy, Debug, PartialEq, Eq)]
 pub struct Mirror {
     pub x: bool,
@@ -22,7 +22,7 @@ pub struct Mirror {
 /// What a modifier does to strokes.
 #[derive(Clone, Copy, Debug, PartialEq, Eq)]
 pub enum Effect {
-    /// Scales each point about 0, and moves it.
+    /// Scales each point about 0, and then moves it.
     Offset { loc: V3, scale: Fx },
     /// Appends the strokes mirrored, for each axis in turn.
     Mirror(Mirror),
@@ -31,7 +31,7 @@ pub enum Effect {
 }
 
 /// An effect in a stack, with its two switches.
-#[derive(Debug, Drop)]
+#[derive(Clone, Debug, Drop, PartialEq, Eq)]
 pub struct Modifier {
     pub name: Name,
     pub viewport: bool,

@@ -1,15 +1,18 @@
-// Names of objects, actions, bones, layers and modifiers.
+//! Names of objects, actions, armatures, bones, pencils, layers and modifiers.
 ghost use Rattle.std.specs.Prelude.{◌≡◌, false, IsTrue, IfOk, MatchOption};
 ghost use Rattle.std.specs.List.{list_all};
 ghost use Rattle.rig_scene.specs.Name.{is_name, is_name_byte};
 
+use crate::limits::MAX_NAME_BYTES;
 use rig_io::NoMemory;
 use std::alloc::{AllocError, Global};
+use std::hash::{Hash, Hasher};
 use std::marker::Model;
+use thiserror::Error;
 
 /// A name: text of 1 to 63 bytes without bytes below 0x20 and without 0x7F. Contracts see it as its bytes,
 /// and two names are equal where their bytes are.
-#[derive(Debug, Drop)]
+#[derive(Clone, Debug, Drop)]
 pub struct Name {
     text: String,
 }
@@ -45,12 +48,28 @@ impl Eq for Name {
     ghost laws = { nat_list_eq_equiv };
 }
 
+impl Hash for Name {
+    ghost use Rattle.std.specs.Hash as fed;
+    ghost use Rattle.std.specs.Cmp.Rules.{hashing};
+    ghost use Rattle.std.proofs.Common.{rules};
+
+    ghost hash_input = { fed.str };
+
+    ghost respects_eq = { Prim.search (hashing, rules) };
+
+    fn hash<H: Hasher>(&self, state: &mut H) {
+        self.as_str().hash(state);
+    }
+}
+
 /// Why bytes gave no name.
-#[derive(Clone, Copy, Debug, PartialEq, Eq)]
+#[derive(Clone, Copy, Debug, PartialEq, Eq, Error)]
 pub enum NameStop {
     /// Memory was refused.
+    #[error("out of memory")]
     NoMemory,
     /// The bytes aren't a name.
+    #[error("expected text of 1 to {most} bytes without control characters", most = MAX_NAME_BYTES)]
     BadName,
 }
 
@@ -66,8 +85,20 @@ impl From<AllocError> for NameStop {
 }
 
 impl Name {
-    /// The name that the bytes are. [`NameStop::BadName`] comes exactly where they aren't UTF-8 of 1 to 63
-    /// bytes without bytes below 0x20 and without 0x7F.
+    /// Whether the bytes are a name: UTF-8 of 1 to 63 bytes without bytes below 0x20 and without 0x7F. It allocates
+    /// nothing.
+    pub fn is_name(bytes: &[u8]) -> bool
+        ensures { result ≡ is_name bytes.now }
+    {
+        name_text(bytes).is_some()
+    }
+
+    /// The name that the bytes are.
+    ///
+    /// # Errors
+    ///
+    /// [`NameStop::BadName`] exactly where the bytes aren't a name ([`Name::is_name`]). [`NameStop::NoMemory`] where they
+    /// are one, and memory is refused.
     pub fn of(alloc: Global, bytes: &[u8]) -> Result<Name, NameStop>
         ensures name { IfOk result (λ name. (name ≡ bytes.now) × IsTrue (is_name bytes.now)) }
         ensures bad { result ≡ Err NameStop.BadName → is_name bytes.now ≡ false }
@@ -89,12 +120,14 @@ impl Name {
     }
 
     /// An equal name with memory of its own.
-    pub fn copy(&self, alloc: Global) -> Result<Name, NoMemory>
+    ///
+    /// # Errors
+    ///
+    /// [`NoMemory`] where memory is refused.
+    pub fn copy(&self) -> Result<Self, NoMemory>
         ensures { IfOk result (λ copy. copy ≡ self.now) }
     {
-        Ok(Name {
-            text: String::from_str(alloc, self.text.as_str())?,
-        })
+        Ok(self.clone()?)
     }
 }
 
@@ -102,7 +135,7 @@ impl Name {
 fn name_text(bytes: &[u8]) -> Option<&str>
     ensures { MatchOption result (is_name bytes.now ≡ false) (λ text. (text.now ≡ bytes.now) × IsTrue (is_name bytes.now)) }
 {
-    if bytes.is_empty() || bytes.len() > 63 || !has_name_bytes(bytes) {
+    if bytes.is_empty() || bytes.len() > MAX_NAME_BYTES || !has_name_bytes(bytes) {
         return None;
     }
     str::from_utf8(bytes).ok()
@@ -111,7 +144,7 @@ fn name_text(bytes: &[u8]) -> Option<&str>
 fn has_name_bytes(bytes: &[u8]) -> bool
     ensures { result ≡ list_all is_name_byte bytes.now }
 {
-    bytes.iter().all(|b| *b >= 32 && *b != 127)
+    bytes.iter().all(|b| *b >= 0x20 && *b != 0x7F)
 }
 
 #[cfg(test)]
@@ -120,44 +153,26 @@ mod tests {
     use std::test::Fail;
 
     #[test]
-    fn one_letter_is_a_name(rt: HostRuntime) -> Result<(), Fail> {
-        let name = Name::of(rt.alloc(), b"A")?;
-        assert_eq!(rt; name.as_str(), "A");
-        Ok(())
-    }
-
-    #[test]
-    fn names_are_counted_in_bytes(rt: HostRuntime) -> Result<(), Fail> {
-        let letters = [b'a'; 63];
+    fn bytes_are_a_name_or_not(rt: HostRuntime) -> Result<(), Fail> {
         let two_byte_letters = "éééééééééééééééééééééééééééééééa";
-        assert_eq!(rt; two_byte_letters.len(), 63);
-        for bytes in [
-            letters.as_slice(),
-            two_byte_letters.as_bytes(),
-            b" ".as_slice(),
-            b"~".as_slice(),
+        let too_long = "ééééééééééééééééééééééééééééééééé";
+        for (bytes, is_name) in [
+            (b"A".as_slice(), true),
+            (b" ".as_slice(), true),
+            (b"~".as_slice(), true),
+            (two_byte_letters.as_bytes(), true),
+            (too_long.as_bytes(), false),
+            (b"".as_slice(), false),
+            ([0x1F].as_slice(), false),
+            ([0x7F].as_slice(), false),
+            ([0xFF].as_slice(), false),
         ] {
-            let name = Name::of(rt.alloc(), bytes)?;
-            assert_eq!(rt; name.as_str().as_bytes(), bytes);
+            assert_eq!(rt; Name::is_name(bytes), is_name);
+            match Name::of(rt.alloc(), bytes) {
+                Ok(name) => assert_eq!(rt; name.copy()?.as_str().as_bytes(), bytes),
+                Err(stop) => assert!(rt; !is_name && stop == NameStop::BadName),
+            }
         }
         Ok(())
-    }
-
-    #[test]
-    fn other_bytes_are_no_names(rt: HostRuntime) {
-        let letters = [b'a'; 64];
-        let two_byte_letters = "éééééééééééééééééééééééééééééééé";
-        assert_eq!(rt; two_byte_letters.len(), 64);
-        for bytes in [
-            b"".as_slice(),
-            letters.as_slice(),
-            two_byte_letters.as_bytes(),
-            [0x1F].as_slice(),
-            [0x7F].as_slice(),
-            [0xFF].as_slice(),
-        ] {
-            let answer = Name::of(rt.alloc(), bytes);
-            assert!(rt; matches!(answer, Err(NameStop::BadName)), "of {bytes:?}");
-        }
     }
 }

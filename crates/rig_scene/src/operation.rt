@@ -1,8 +1,10 @@
-// Operations of the dependency graph, and the components that they belong to.
-ghost use Rattle.std.specs.Prelude.{◌≡◌};
+//! Operations of the dependency graph, and the components that they belong to.
+ghost use Rattle.std.specs.Prelude.{◌≡◌, IfOk};
 ghost use Rattle.rig_scene.specs.Component.{component_of};
 
-use crate::channel::{AnimId, ObjectId, Path};
+use crate::id::{AnimId, ObjectId};
+use crate::path::Path;
+use rig_io::NoMemory;
 
 /// What an operation belongs to.
 #[derive(Clone, Copy, Debug, PartialEq, Eq)]
@@ -16,7 +18,7 @@ pub enum Component {
 }
 
 /// One step of an evaluation.
-#[derive(Debug, Drop)]
+#[derive(Clone, Debug, Drop, PartialEq, Eq, Hash)]
 pub enum OpId {
     /// The frame.
     Time,
@@ -34,7 +36,7 @@ pub enum OpId {
     Bone(ObjectId, u32),
     /// All bones of an object.
     PoseDone(ObjectId),
-    /// The strokes of a layer, by the number of its pencil and its own.
+    /// The strokes of a layer, by the index of its pencil and its own.
     Layer(u32, u32),
     /// The strokes of a pencil object before its modifiers.
     Geometry(ObjectId),
@@ -45,6 +47,17 @@ pub enum OpId {
 }
 
 impl OpId {
+    /// An equal operation with memory of its own.
+    ///
+    /// # Errors
+    ///
+    /// [`NoMemory`] where memory is refused.
+    pub fn copy(&self) -> Result<Self, NoMemory>
+        ensures { IfOk result (λ copy. copy ≡ self.now) }
+    {
+        Ok(self.clone()?)
+    }
+
     /// The component that the operation belongs to.
     pub fn component(&self) -> Component
         ensures { result ≡ component_of self.now }

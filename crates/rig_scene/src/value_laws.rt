@@ -1,23 +1,26 @@
-// What the definitions of values give: each law is proved by computing.
-#![tactic(auto, unfolding(rig_fixed::specs::Rotate::normalized, rig_fixed::specs::Rotate::product, rig_fixed::specs::Rotate::rotate, rig_fixed::specs::Rotate::carry, rig_fixed::specs::Rotate::compose, rig_fixed::specs::Rotate::inverse, crate::specs::Curve::curve_at, crate::specs::Channel::animated_number, crate::specs::Modify::modify, crate::specs::Value::driver_number, crate::specs::Value::local_transform, crate::specs::Value::world_transform, crate::specs::Value::pose_transform, crate::specs::Value::shown_layer, crate::specs::Value::joined_layers, crate::specs::Value::modified_strokes))]
+//! What the definitions of values give: each law is proved by computing.
+#![tactic(auto, unfolding(rig_fixed::specs::Rotation::unit_rotation, rig_fixed::specs::Rotation::product, rig_fixed::specs::Rotation::rotate, rig_fixed::specs::Transform::carry, rig_fixed::specs::Transform::compose, rig_fixed::specs::Transform::inverse, crate::specs::Curve::curve_at, crate::specs::ChannelNumber::original_number, crate::specs::ChannelNumber::animated_number, crate::specs::Modify::modify, crate::specs::Value::driver_number, crate::specs::Value::local_transform, crate::specs::Value::world_transform, crate::specs::Value::pose_transform, crate::specs::Value::shown_layer, crate::specs::Value::joined_layers, crate::specs::Value::modified_strokes))]
 
 ghost use Rattle.std.specs.Prelude.{◌≡◌, [], ◌∷◌, pos, negsuc, replicate, true, false};
-ghost use Rattle.rig_fixed.specs.Transform.{identity, no_rotation, origin};
-ghost use Rattle.rig_fixed.specs.Rotate.{carry};
+ghost use Rattle.rig_fixed.specs.Rotation.{no_rotation};
+ghost use Rattle.rig_fixed.specs.Transform.{identity, carry};
+ghost use Rattle.rig_fixed.specs.Vector.{origin};
 ghost use Rattle.rig_fixed.specs.Example.{v3_of, rotation_of};
 ghost use Rattle.rig_scene.specs.Curve.{curve_at};
 ghost use Rattle.rig_scene.specs.Combine.{combine};
-ghost use Rattle.rig_scene.specs.Channel.{number_by};
+ghost use Rattle.rig_scene.specs.ChannelNumber.{number_by};
 ghost use Rattle.rig_scene.specs.Pose.{bone_transform, rest_chain, deform_of};
 ghost use Rattle.rig_scene.specs.Layer.{held_drawing, shown_point, joined_within};
 ghost use Rattle.rig_scene.specs.Modify.{modify};
-ghost use Rattle.rig_scene.specs.Value.{Number, Placed, Drawn, value_at};
-ghost use Rattle.rig_scene.specs.ValueExample.{line_to, two_layer_keys, dot, mirror_on, unit_transform, upper_bone, upper_pose};
-ghost use Rattle.rig_scene.specs.ValueExample.{pair_scene, child_driver, child_id, line_scene, line_id, none_cut, bones_cut, worlds_cut};
+ghost use Rattle.rig_scene.specs.Value.{Number, Transform, Strokes, value_at};
+ghost use Rattle.rig_scene.specs.Examples.{line_to, two_layer_keys, dot, mirror_on, unit_transform, upper_bone, upper_pose};
+ghost use Rattle.rig_scene.specs.Examples.{pair_scene, child_driver, child_id, line_scene, line_id, none_cut, bones_cut, worlds_cut};
 
-use crate::channel::{AnimId, Channel, Path};
+use crate::channel::Channel;
 use crate::driver::DriverKind;
+use crate::id::AnimId;
 use crate::modifier::{Effect, Mode};
+use crate::path::Path;
 use crate::quantity::Quantity;
 
 /// Between two keys a curve is on the line through them, and a half goes up; beyond them it stands still.
@@ -105,14 +108,14 @@ pub fn offsets_scale_and_then_move()
         modify twice origin (dot (pos 1) (pos 2) (negsuc 2) ∷ []) ≡ dot (pos 12) (pos 4) (negsuc 5) ∷ [] }
 {}
 
-/// A child of a turned object is carried by it, and one whose parent's read is cut stands in its own place.
+/// A child of a turned object is carried by it, and where the read of its parent is cut it stands as if it had none.
 pub fn children_are_carried_by_their_parents()
     ensures carried { let turned = rotation_of (pos 707107) (pos 0) (pos 0) (pos 707107) in
         value_at none_cut (pair_scene []) Mode.Viewport (pos 1) 3 (Quantity.World child_id)
-        ≡ Placed (unit_transform (v3_of (pos 999999) (pos 1000001) (pos 0)) turned) }
+        ≡ Transform (unit_transform (v3_of (pos 999999) (pos 1000001) (pos 0)) turned) }
     ensures cut { value_at worlds_cut (pair_scene []) Mode.Viewport (pos 1) 3 (Quantity.World child_id)
-        ≡ Placed (unit_transform (v3_of (pos 1000000) (pos 0) (pos 0)) no_rotation) }
-    ensures without_depth { value_at none_cut (pair_scene []) Mode.Viewport (pos 1) 0 (Quantity.World child_id) ≡ Placed identity }
+        ≡ Transform (unit_transform (v3_of (pos 1000000) (pos 0) (pos 0)) no_rotation) }
+    ensures without_depth { value_at none_cut (pair_scene []) Mode.Viewport (pos 1) 0 (Quantity.World child_id) ≡ Transform identity }
 {}
 
 /// A driven channel follows what its driver reads.
@@ -120,23 +123,23 @@ pub fn driven_channels_follow_their_variables()
     ensures number { let driven = Quantity.Chan (AnimId.Object child_id) (Path.Own Channel.LocX) in
         value_at none_cut (pair_scene (child_driver ∷ [])) Mode.Render (pos 1) 4 driven ≡ Number (pos 2000000) }
     ensures local { value_at none_cut (pair_scene (child_driver ∷ [])) Mode.Render (pos 1) 4 (Quantity.Local child_id)
-        ≡ Placed (unit_transform (v3_of (pos 2000000) (pos 0) (pos 0)) no_rotation) }
+        ≡ Transform (unit_transform (v3_of (pos 2000000) (pos 0) (pos 0)) no_rotation) }
 {}
 
 /// A layer shows its drawing from its key on, carried by its bone unless that read is cut.
 pub fn layers_follow_their_bones()
-    ensures before { value_at none_cut line_scene Mode.Viewport (pos 4) 3 (Quantity.Layer 0 1) ≡ Drawn [] }
+    ensures before { value_at none_cut line_scene Mode.Viewport (pos 4) 3 (Quantity.Layer 0 1) ≡ Strokes [] }
     ensures held { value_at none_cut line_scene Mode.Viewport (pos 5) 3 (Quantity.Layer 0 1)
-        ≡ Drawn (dot (pos 500001) (pos 2) (pos 7) ∷ []) }
+        ≡ Strokes (dot (pos 500001) (pos 2) (pos 7) ∷ []) }
     ensures cut { value_at bones_cut line_scene Mode.Viewport (pos 5) 3 (Quantity.Layer 0 1)
-        ≡ Drawn (dot (pos 1) (pos 2) (pos 7) ∷ []) }
+        ≡ Strokes (dot (pos 1) (pos 2) (pos 7) ∷ []) }
 {}
 
 /// Geometry leaves hidden layers out, and each modifier works in the mode that it is on in; a mirror's centre
 /// is where the other object is in the own space.
 pub fn modifiers_work_in_the_mode_that_they_are_on_in()
     ensures viewport { value_at none_cut line_scene Mode.Viewport (pos 5) 6 (Quantity.Geom line_id 2)
-        ≡ Drawn (dot (pos 500001) (pos 2) (pos 7) ∷ dot (pos 3499999) (pos 2) (pos 7) ∷ []) }
+        ≡ Strokes (dot (pos 500001) (pos 2) (pos 7) ∷ dot (pos 3499999) (pos 2) (pos 7) ∷ []) }
     ensures render { value_at none_cut line_scene Mode.Render (pos 5) 6 (Quantity.Geom line_id 2)
-        ≡ Drawn (dot (pos 500001) (pos 2) (pos 7) ∷ dot (pos 500011) (pos 2) (pos 7) ∷ []) }
+        ≡ Strokes (dot (pos 500001) (pos 2) (pos 7) ∷ dot (pos 500011) (pos 2) (pos 7) ∷ []) }
 {}

@@ -1,4 +1,1 @@
-mod Bits
-mod InPlace
-mod KeyOrder
-mod Unclamped
+mod HeldKeys

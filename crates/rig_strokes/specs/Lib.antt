@@ -1,3 +1,2 @@
-pub mod Near
-pub mod Points
-pub mod Shift
+-- what the proofs need
+pub mod Shown

@@ -1,27 +1,17 @@
-// Which drawing a layer holds at a frame (Blender Manual, Grease Pencil, Layers).
-ghost use Rattle.std.specs.Prelude.{◌≡◌, ◌≤◌, length, filter, take, int_le, int_lt, IsTrue};
-ghost use Rattle.rig_scene.specs.Distinct.{are_rising};
+//! Which drawing a layer holds at a frame (Blender Manual, Grease Pencil, Layers).
+ghost use Rattle.std.specs.Prelude.{◌≡◌, ◌↔◌, ◌<ℤ◌, All, IsTrue, IsNone};
+ghost use Rattle.rig_scene.specs.Keys.{are_frames_rising};
 ghost use Rattle.rig_scene.specs.Layer.{held_drawing};
 
-use rig_scene::{Layer, LayerKey};
+use rig_scene::{Layer, keys_around};
 
-/// The number of the drawing that a layer shows at a frame: that of its last keyframe at or before it. None comes
-/// exactly where each keyframe is after it. It takes no memory.
+/// The index of the drawing that a layer holds at a frame: that of its last key at or before the frame. `None` comes
+/// exactly where each key is after it. No allocation.
 pub fn held(layer: &Layer, frame: i32) -> Option<u32>
-    requires { IsTrue (are_rising (λ j k. int_lt j.frame k.frame) layer.now.keys) }
-    ensures { result ≡ held_drawing layer.now.keys frame }
+    requires { IsTrue (are_frames_rising (λ k. k.frame) layer.now.keys) }
+    ensures drawing { result ≡ held_drawing layer.now.keys frame }
+    ensures none { IsNone result ↔ All (λ k. frame <ℤ k.frame) layer.now.keys }
 {
-    let keys = layer.keys.as_slice();
-    let past = past_keys(keys, frame);
-    let key = keys[..past].last()?;
-    Some(key.drawing)
-}
-
-// The number of the keys that aren't after the frame. They come first.
-fn past_keys(keys: &[LayerKey], frame: i32) -> usize
-    requires { IsTrue (are_rising (λ j k. int_lt j.frame k.frame) keys.now) }
-    ensures within { result ≤ length keys.now }
-    ensures past { filter (λ k. int_le k.frame frame) keys.now ≡ take result keys.now }
-{
-    keys.partition_point(|key| key.frame <= frame)
+    let (key, _) = keys_around(layer.keys.as_slice(), frame);
+    Some(key?.drawing)
 }

@@ -1,49 +1,59 @@
-// The strokes of a layer.
-ghost use Rattle.std.specs.Prelude.{◌≡◌, [], IsTrue, IfOk};
-ghost use Rattle.std.specs.Option.{option_copied, option_map_or};
-ghost use Rattle.rig_scene.specs.Layer.{map_points, shown_point};
-ghost use Rattle.rig_strokes.specs.Near.{AreNear};
-ghost use Rattle.rig_strokes.specs.Points.{point_under};
+//! The strokes of a layer (Blender Manual, Grease Pencil, Layers).
+ghost use Rattle.std.specs.Prelude.{◌≡◌, [], IfNone, IfOk};
+ghost use Rattle.std.specs.Option.{option_copied};
+ghost use Rattle.rig_points.specs.Change.{point_under};
+ghost use Rattle.rig_scene.specs.Layer.{map_points, layer_strokes};
+ghost use Rattle.rig_strokes.specs.Shown.{layer_change};
 
-use crate::append::append_strokes;
-use crate::near::are_near;
-use crate::point::PointMap;
 use rig_fixed::{V3, Xform};
 use rig_io::{List, NoMemory};
+use rig_points::{PointMap, points_under};
 use rig_scene::{Drawing, Stroke, Strokes};
 use std::alloc::Global;
 
-/// The strokes of a layer that holds a drawing, none where it holds none: each point is moved by the layer's
-/// offset, in millionths, and then carried by `deform`, where the layer is bound to a bone. Want of memory is the
-/// only error.
+/// The strokes that a layer shows of the drawing that it holds: each point has the layer's offset added, in
+/// millionths, is clamped to the limits, and is then carried by `deform` where the layer is bound to a bone. A layer
+/// that holds no drawing shows no strokes.
+///
+/// # Errors
+///
+/// [`NoMemory`] alone, and only with a drawing.
 pub fn layer_strokes(
     alloc: Global,
     drawing: Option<&Drawing>,
     offset: V3,
     deform: Option<&Xform>,
 ) -> Result<Strokes, NoMemory>
-    ensures { IfOk result (λ new. new ≡ map_points (shown_point offset (option_copied deform.entry)) (option_map_or (λ d. d.strokes) (option_copied drawing.entry) [])) }
+    ensures strokes { IfOk result (λ new. new ≡ layer_strokes (option_copied drawing.entry) offset (option_copied deform.entry)) }
+    ensures without_drawing { IfNone (option_copied drawing.entry) (result ≡ Ok []) }
 {
-    let Some(drawing) = drawing else {
-        return Ok(List::new(alloc));
-    };
-    let strokes = drawing.strokes.as_slice();
-    match deform {
-        None => changed_strokes(alloc, strokes, are_near(strokes), &PointMap::Moved(offset)),
-        Some(deform) => changed_strokes(alloc, strokes, false, &PointMap::Carried(offset, *deform)),
+    match drawing {
+        Some(drawing) => strokes_under(alloc, &drawing.strokes, &layer_change(offset, deform)),
+        None => Ok(List::new(alloc)),
     }
 }
 
-fn changed_strokes(
-    alloc: Global,
-    strokes: &[Stroke],
-    near: bool,
-    change: &PointMap,
-) -> Result<Strokes, NoMemory>
-    requires { IsTrue near → AreNear strokes.now }
+fn layer_change(offset: V3, deform: Option<&Xform>) -> PointMap
+    ensures { result ≡ layer_change offset (option_copied deform.entry) }
+{
+    match deform {
+        Some(transform) => PointMap::Deform {
+            offset,
+            transform: *transform,
+        },
+        None => PointMap::Translation { offset },
+    }
+}
+
+fn strokes_under(alloc: Global, strokes: &Strokes, change: &PointMap) -> Result<Strokes, NoMemory>
     ensures { IfOk result (λ new. new ≡ map_points (point_under change.now) strokes.now) }
 {
     let mut new = Vec::with_capacity(alloc, strokes.len())?;
-    append_strokes(alloc, &mut new, strokes, near, change)?;
+    for index in 0..strokes.len() {
+        let points = points_under(alloc, strokes.get(index).points.as_slice(), change)?;
+        new.push_reserved(Stroke {
+            points: List::from(points),
+        });
+    }
     Ok(List::from(new))
 }

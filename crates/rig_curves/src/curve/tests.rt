@@ -1,4 +1,4 @@
-// Curves of two keys and of none, with values in millionths.
+//! Curves of two keys and of none, with values in millionths.
 ghost use Rattle.std.specs.Prelude.{◌≡◌, ◌∷◌, [], IfOk, IsTrue, int_lt};
 ghost use Rattle.rig_scene.specs.Distinct.{are_rising};
 
@@ -14,7 +14,7 @@ fn key(frame: i32, value: i64, interp: Interp) -> Key
 {
     Key {
         frame,
-        value: Fx::clamped(value),
+        value: Fx::of_i64(value),
         interp,
     }
 }
@@ -32,7 +32,7 @@ fn assert_values(rt: &impl Abort, curve: &Curve, values: &[(i32, i64)])
     requires { IsTrue (are_rising (λ j k. int_lt j.frame k.frame) curve.now.keys) }
 {
     for (frame, value) in values {
-        assert_eq!(rt; at(curve, *frame), Some(Fx::clamped(*value)), "at {frame}");
+        assert_eq!(rt; at(curve, *frame), Some(Fx::of_i64(*value)), "at {frame}");
     }
 }
 

@@ -1,3 +1,4 @@
+//! Which bytes are an input, and what is read of them.
 use super::*;
 use crate::script::Step;
 use rig_fixed::Fx;

@@ -1,4 +1,4 @@
-// What is found in a small scene.
+//! What is found in a small scene.
 ghost use Rattle.std.specs.Prelude.{◌≡◌, None};
 ghost use Rattle.rig_scene.specs.declared.object.Kind.TheVariants.{Empty};
 
@@ -16,23 +16,18 @@ fn object(id: u32, name: Name) -> Object
     ensures alone { (result.action ≡ None) × (result.parent ≡ None) }
     ensures kind { result.kind ≡ Empty }
 {
-    let zero = Fx::of(0);
     Object {
         id: ObjectId(id),
         name,
         own: Channels {
-            loc: V3 {
-                x: zero,
-                y: zero,
-                z: zero,
-            },
+            loc: V3::ZERO,
             rot: Raw {
-                w: Fx::of(1_000_000),
-                x: zero,
-                y: zero,
-                z: zero,
+                w: Fx::ONE,
+                x: Fx::ZERO,
+                y: Fx::ZERO,
+                z: Fx::ZERO,
             },
-            scale: Fx::of(1_000_000),
+            scale: Fx::ONE,
         },
         action: None,
         parent: None,
@@ -57,7 +52,7 @@ fn arm_and_armature(alloc: Global) -> Result<Scene, Fail> {
 
 #[test]
 fn whole_names_are_compared(rt: HostRuntime) -> Result<(), Fail> {
-    let scene = arm_and_armature(rt.alloc())?;
+    let scene = arm_and_armature(rt.alloc())?.copy()?;
     for (name, found) in [
         (b"Arm".as_slice(), Some(ObjectId(3))),
         (b"Armature".as_slice(), Some(ObjectId(7))),
@@ -66,16 +61,5 @@ fn whole_names_are_compared(rt: HostRuntime) -> Result<(), Fail> {
         let name = Name::of(rt.alloc(), name)?;
         assert_eq!(rt; scene.find(&name), found);
     }
-    Ok(())
-}
-
-#[test]
-fn copies_have_the_same_objects(rt: HostRuntime) -> Result<(), Fail> {
-    let scene = arm_and_armature(rt.alloc())?;
-    let copy = scene.copy(rt.alloc())?;
-    assert_eq!(rt; copy.objects.len(), 2);
-    assert_eq!(rt; copy.objects.get(0).name.as_str(), "Arm");
-    assert_eq!(rt; copy.objects.get(1).name.as_str(), "Armature");
-    assert_eq!(rt; copy.next, 8);
     Ok(())
 }

@@ -11,4 +11,4 @@ pub returns : goal.returns
 returns c =
     let road = YieldsList-from_copied (YieldsList-from_slice c.args.values.now cc) in
     let greatest = reduce_by_from_yields_List (λ x y. max_by_ordering (int_cmp x y) x y) int_max c.copied.result c.max.result max_by_ordering-int_cmp c.max.ensures.ran road in
-    c.unwrap_or.ensures ∙ or_zero c.max.result (reduce int_max c.args.values.now) c.clamped.result greatest c.clamped.ensures
+    c.unwrap_or.ensures ∙ or_zero c.max.result (reduce int_max c.args.values.now) greatest

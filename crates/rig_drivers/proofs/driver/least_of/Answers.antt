@@ -11,4 +11,4 @@ pub returns : goal.returns
 returns c =
     let road = YieldsList-from_copied (YieldsList-from_slice c.args.values.now cc) in
     let least = reduce_by_from_yields_List (λ x y. min_by_ordering (int_cmp x y) x y) int_min c.copied.result c.min.result min_by_ordering-int_cmp c.min.ensures.ran road in
-    c.unwrap_or.ensures ∙ or_zero c.min.result (reduce int_min c.args.values.now) c.clamped.result least c.clamped.ensures
+    c.unwrap_or.ensures ∙ or_zero c.min.result (reduce int_min c.args.values.now) least

@@ -1,7 +1,6 @@
 use Rattle.std.proofs.Common.{arith, rules, ◌≡◌, ◌∙◌, ap, ℤ, pos, ◌-ℤ◌, neg_ℤ, w64, FitsSigned, to_z, of_z}
 use Rattle.std.proofs.lemmas.Int.{ints, to_z-of_z}
-use Rattle.rig_fixed.specs.Transform.{IsWithinUnit}
-use Rattle.rig_fixed.specs.Rotate.{conjugate}
+use Rattle.rig_fixed.specs.Rotation.{IsWithinUnit, conjugate}
 use Rattle.rig_fixed.proofs.Length.{four_same}
 use Rattle.rig_fixed.proofs.rotation.conjugate.Goals as goal
 

@@ -1,7 +1,7 @@
 use Rattle.std.proofs.Common.{arith, ◌≡◌, ◌≤◌, ◌*◌, ℤ, ◌-ℤ◌, ◌*ℤ◌, unsigned_abs, w64, FitsSigned, to_z, of_z}
 use Rattle.std.proofs.lemmas.Int.{to_z-of_z}
 use Rattle.rig_fixed.specs.Fixed.{IsWithinLimits}
-use Rattle.rig_fixed.specs.Transform.{IsWithinUnit}
+use Rattle.rig_fixed.specs.Rotation.{IsWithinUnit}
 use Rattle.rig_fixed.proofs.Bounds.{mul_within, unit_within, limits_within}
 use Rattle.rig_fixed.proofs.Values.{settle, fits64, difference_is, difference_within}
 use Rattle.rig_fixed.proofs.rotation.determinant.Goals as goal

@@ -2,7 +2,7 @@ use Rattle.std.proofs.Common.{arith, rules, suc, subst, ◌≡◌, ◌∙◌, sy
 use Rattle.std.specs.Int.{w128}
 use Rattle.std.proofs.lemmas.Int.{ints, to_z-of_z}
 use Rattle.rig_fixed.specs.Number.{rdiv}
-use Rattle.rig_fixed.specs.Transform.{IsWithinUnit}
+use Rattle.rig_fixed.specs.Rotation.{IsWithinUnit}
 use Rattle.rig_fixed.proofs.Bounds.{mul_within, unit_within, add_within}
 use Rattle.rig_fixed.proofs.Values.{settle, fits128, product_is}
 use Rattle.rig_fixed.proofs.rotation.turn.Goals as goal

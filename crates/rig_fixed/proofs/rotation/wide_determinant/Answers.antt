@@ -1,6 +1,6 @@
 use Rattle.std.proofs.Common.{arith, ◌≡◌, ◌≤◌, ◌*◌, ℤ, ◌-ℤ◌, ◌*ℤ◌, unsigned_abs, w64, FitsSigned, to_z, of_z}
 use Rattle.std.specs.Int.{w128}
-use Rattle.rig_fixed.specs.Transform.{IsWithinUnit}
+use Rattle.rig_fixed.specs.Rotation.{IsWithinUnit}
 use Rattle.rig_fixed.proofs.Bounds.{mul_within, unit_within}
 use Rattle.rig_fixed.proofs.Values.{settle, widened, fits128, difference_within}
 use Rattle.rig_fixed.proofs.rotation.wide_determinant.Goals as goal

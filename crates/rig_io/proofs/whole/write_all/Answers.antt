@@ -1,4 +1,4 @@
-use Rattle.std.proofs.Common.{take, drop, sym, refl, arith}
+use Rattle.std.proofs.Common.{take, drop, sym, refl, ◌∙◌, arith}
 use Rattle.std.proofs.lemmas.List.{take-append-drop, take_rest}
 use Rattle.std.proofs.Math.Seq.{take-add}
 use Rattle.rig_io.proofs.Pieces.{Appended-append, Appended-kept}
@@ -10,7 +10,7 @@ loop-done-preserved g c = record {
   taken =
       rw take-add
       (Appended-append _ _ _ _ _ c.loop-done.invariant.taken (rw take_rest at c.in-Took.ensures.took));
-  faults = omega (arith, c.in-Took.ensures.faults);
+  faults = c.in-Took.ensures.no_fault (λ e. cc) ∙ c.loop-done.invariant.faults;
 }
 
 pub returns-in-Failed-clause-err : goal.returns-in-Failed-clause-err

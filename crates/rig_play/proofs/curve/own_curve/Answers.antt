@@ -3,7 +3,7 @@ use Rattle.std.proofs.lemmas.Bool.{and_parts}
 use Rattle.std.proofs.lemmas.Iterator.{YieldsList-from_slice}
 use Rattle.std.proofs.lemmas.Iterator.Search.{find_from_yields_List}
 use Rattle.std.specs.List.{list_all}
-use Rattle.rig_scene.specs.declared.channel.Path.TheVariants.{Own}
+use Rattle.rig_scene.specs.declared.path.Path.TheVariants.{Own}
 use Rattle.rig_scene.specs.Distinct.{are_distinct}
 use Rattle.rig_scene.specs.Path.{same_path}
 use Rattle.rig_scene.specs.WellFormed.{are_keys}

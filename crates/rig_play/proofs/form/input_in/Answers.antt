@@ -8,7 +8,7 @@ use Rattle.rig_play.proofs.form.input_in.Goals as goal
 pub returns : goal.returns
 returns c =
     let known = input_in-known (view c.args.value.now) (view c.in_ok-member.field-0.now) c.in_ok-scene.scene c.in_ok-scene.objects (sym c.if-not-has_only.ensures) c.in_ok-member.ensures c.in_ok-scene.ensures in
-    subst (λ o. Gives c.scripted.result o) (sym known) c.scripted.ensures
+    subst (λ o. Gives c.input_with_script.result o) (sym known) c.input_with_script.ensures
 
-pub scripted-requires : goal.scripted-requires
-scripted-requires c = (named_some (scene_in (view c.in_ok-member.field-0.now)) c.in_ok-scene.scene c.in_ok-scene.objects c.in_ok-scene.ensures).1
+pub input_with_script-requires : goal.input_with_script-requires
+input_with_script-requires c = (named_some (scene_in (view c.in_ok-member.field-0.now)) c.in_ok-scene.scene c.in_ok-scene.objects c.in_ok-scene.ensures).1

@@ -1,5 +1,5 @@
 use Rattle.std.proofs.Common.{◌≡◌, map, take, drop}
-use Rattle.rig_scene.specs.Path.{same_text}
+use Rattle.rig_scene.specs.Text.{same_text}
 use Rattle.rig_scene.specs.Distinct.{are_new_after, are_distinct}
 use Rattle.rig_play.proofs.names.distinct_names.Given as goal
 

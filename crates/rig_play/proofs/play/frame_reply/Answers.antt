@@ -14,11 +14,11 @@ returns-clause-text g c = λ steps follows number.
     let s = c.args.scene.now in
     let ran = c.evaluate-ran.result in
     let all = c.args.all in
-    let places = c.locations.result.now in
+    let indices = c.locations.result.now in
     let same = to_z-of_z w32 f c.ranges.frame in
     let ran-is = c.evaluate-ran.ensures.ran steps follows ∙ ap (λ x. length (flushed s steps x)) same in
     let values = c.evaluate-ran.ensures.values steps follows ∙ ap (λ x. map (λ o. location (after s steps) o x) (after s steps).objects) same in
-    let Q : ℤ → Type 0 = λ x. IfOk c.frame_reply_text.result (λ text. text.items ≡ frame_line c.args.number x ran all ++ framed x (object_lines s.objects places)) in
+    let Q : ℤ → Type 0 = λ x. IfOk c.frame_reply_text.result (λ text. text.items ≡ frame_line c.args.number x ran all ++ framed x (object_lines s.objects indices)) in
     let P : List ℕ → Type 0 = λ t. IfOk c.frame_reply_text.result (λ text. text.items ≡ t) in
-    subst P (frame_reply-is s steps c.args.number ran all f places number ran-is c.requires.all (c.locations.ensures ∙ values))
+    subst P (frame_reply-is s steps c.args.number ran all f indices number ran-is c.requires.all (c.locations.ensures ∙ values))
     (subst Q same c.frame_reply_text.ensures)

@@ -13,5 +13,6 @@ invariant-loop-i g l = record {
   sized : IsFor (length l.scene.objects) l.engine;
   printed : flat_map (λ t. t.items) l.texts.items ++ replies_from l.scene (take l.i l.steps) (drop l.i l.steps) ≡ text_of l.input;
   counted : g.Y.Tally.count l.tally + ran_from l.scene (take l.i l.steps) (drop l.i l.steps) ≡ g.Y.Tally.count l.initial.tally + ran_in l.input;
+  rises : g.Y.Tally.count l.initial.tally ≤ g.Y.Tally.count l.tally;
   few : g.Y.Tally.count l.tally ≤ g.Y.Tally.count l.initial.tally + l.i * (1 + 3 * length l.scene.objects);
 }

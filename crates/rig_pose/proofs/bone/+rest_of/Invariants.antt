@@ -1,4 +1,4 @@
 use Rattle.rig_pose.proofs.bone.+rest_of.Given as goal
 
 abbrev pub decreases-rest_of : goal.decreases-rest_of
-decreases-rest_of l = l.number
+decreases-rest_of l = l.index

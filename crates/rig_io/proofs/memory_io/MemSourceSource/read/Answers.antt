@@ -7,7 +7,7 @@ pub returns-clause-gave : goal.returns-clause-gave
 returns-clause-gave c = (
   drop (c.self.inside.at + c.min-n.result) c.self.inside.bytes.items,
   piece_and_rest _ _ _ _ _ (ap (λ s. s.left) c.self.view_is)
-      (rw c.deref-2.ensures.value at c.copy_piece.ensures),
+      (rw c.deref-2.ensures.value at c.copy_piece.ensures.prefix),
   refl,
 )
 

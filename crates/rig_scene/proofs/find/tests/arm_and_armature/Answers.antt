@@ -1,11 +1,11 @@
-use Rattle.std.proofs.Common.{◌≡◌, ℕ, List, [], ◌∷◌, true, None, ◌∙◌}
+use Rattle.std.proofs.Common.{◌≡◌, [], ◌∷◌, true, None, ◌∙◌}
 use Rattle.rig_scene.specs.declared.object.Kind.TheVariants.{Empty}
 use Rattle.rig_scene.specs.declared.object.Object.{Object}
-use Rattle.rig_scene.specs.Scene.{SceneRecord}
 use Rattle.rig_scene.specs.WellFormed.{is_scene}
 use Rattle.rig_scene.proofs.find.tests.arm_and_armature.Goals as goal
 
 two_alone : (arm armature : Object) → arm.id.0 ≡ 3 → armature.id.0 ≡ 7 → arm.name ≡ 65 ∷ 114 ∷ 109 ∷ [] → armature.name ≡ 65 ∷ 114 ∷ 109 ∷ 97 ∷ 116 ∷ 117 ∷ 114 ∷ 101 ∷ [] → arm.action ≡ None → arm.parent ≡ None → armature.action ≡ None → armature.parent ≡ None → arm.kind ≡ Empty → armature.kind ≡ Empty → is_scene (record { actions = []; armatures = []; pencils = []; objects = arm ∷ armature ∷ []; drivers = []; next = 8 }) ≡ true
+unfolding is_scene
 two_alone arm armature a b c d e f g h i j = simp (a, b, c, d, e, f, g, h, i, j)
 
 pub invariant_of-result : goal.invariant_of-result

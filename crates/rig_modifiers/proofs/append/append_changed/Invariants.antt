@@ -1,0 +1,7 @@
+use Rattle.std.proofs.Common.{◌≡◌, ◌++◌, take}
+use Rattle.rig_points.specs.Change.{point_under}
+use Rattle.rig_scene.specs.Layer.{map_points}
+use Rattle.rig_modifiers.proofs.append.append_changed.Given as goal
+
+abbrev pub invariant-loop-stroke : goal.invariant-loop-stroke
+invariant-loop-stroke l = l.new.items ≡ l.initial.new.items ++ map_points (point_under l.change) (take l.stroke-index l.strokes)

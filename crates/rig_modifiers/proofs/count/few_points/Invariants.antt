@@ -1,9 +1,0 @@
-use Rattle.std.proofs.Common.{◌≡◌, ◌≤◌, ◌+◌, drop}
-use Rattle.rig_scene.specs.Layer.{most_points, stroke_points}
-use Rattle.rig_modifiers.proofs.count.few_points.Given as goal
-
-abbrev pub invariant-loop-stroke : goal.invariant-loop-stroke
-invariant-loop-stroke l = record {
-  whole : l.count + stroke_points (drop l.stroke-index l.strokes) ≡ stroke_points l.strokes;
-  within : l.count ≤ most_points;
-}

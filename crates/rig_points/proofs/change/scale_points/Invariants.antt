@@ -1,0 +1,7 @@
+use Rattle.std.proofs.Common.{◌≡◌, ◌++◌, map, take, drop}
+use Rattle.rig_fixed.specs.Vector.{v3_sum, v3_multiple}
+use Rattle.rig_points.proofs.change.scale_points.Given as goal
+
+abbrev pub invariant-loop-point : goal.invariant-loop-point
+invariant-loop-point l =
+    l.points ≡ map (λ p. v3_sum (v3_multiple l.scale p) l.offset) (take l.point-index l.initial.points) ++ drop l.point-index l.initial.points

@@ -1,7 +1,0 @@
-use Rattle.std.proofs.Common.{◌≡◌, ◌++◌, map, take, drop}
-use Rattle.rig_fixed.specs.Rotate.{moved}
-use Rattle.rig_strokes.proofs.point.move_points.Given as goal
-
-abbrev pub invariant-loop-point : goal.invariant-loop-point
-invariant-loop-point l =
-    l.points ≡ map (λ p. moved p l.offset) (take l.point-index l.initial.points) ++ drop l.point-index l.initial.points
