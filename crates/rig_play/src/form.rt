@@ -72,7 +72,12 @@ fn input_in(alloc: Global, value: &Value) -> Result<Input, Unread>
 }
 
 // The scene with the script of the value, which names the scene's objects.
-fn input_with_script(alloc: Global, scene: Scene, objects: &Names, value: &Value) -> Result<Input, Unread>
+fn input_with_script(
+    alloc: Global,
+    scene: Scene,
+    objects: &Names,
+    value: &Value,
+) -> Result<Input, Unread>
     requires { map (λ o. o.name) scene.objects ≡ objects.now }
     ensures { Gives result (with_script scene (member_in (codes "script") (script_in objects.now) (view value.now))) }
 {
