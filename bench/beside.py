@@ -57,20 +57,22 @@ def crate_files(folder):
 
 
 def program_files(name):
-    """The files of a proved side, without their ending .txt."""
-    folders = (BENCH / "proved" / "common", BENCH / "proved" / name)
-    return {
-        path.relative_to(folder).with_suffix(""): path
-        for folder in folders
-        for path in folder.rglob("*.txt")
-        if path.is_file()
+    """The files of a proved side, without their ending .txt, and the common modules that it declares."""
+    own = BENCH / "proved" / name
+    main = (own / "src" / "main.rt.txt").read_text()
+    common = {
+        path.relative_to(BENCH / "proved" / "common"): path
+        for path in (BENCH / "proved" / "common").rglob("*.txt")
+        if f"mod {path.name.partition('.')[0]};" in main
     }
+    files = {path.relative_to(own): path for path in own.rglob("*.txt") if path.is_file()}
+    return {path.with_suffix(""): source for path, source in {**common, **files}.items()}
 
 
 def build_proved(name, libraries, top):
     """Builds the proved side of a name over the crates of a repository, and returns the program."""
-    place = f"{os.getuid()}-{zlib.crc32(str(top).encode()):08x}"
-    folder = pathlib.Path(tempfile.gettempdir()) / f"rigplay-bench-{name}-{place}"
+    suffix = f"{os.getuid()}-{zlib.crc32(str(top).encode()):08x}"
+    folder = pathlib.Path(tempfile.gettempdir()) / f"rigplay-bench-{name}-{suffix}"
     program = f"rig_bench_{name}"
     crates = uses(top)
     own = at_or_below(crates, libraries)

@@ -101,10 +101,10 @@ pub fn cross(a: [i128; 3], b: [i128; 3]) -> [i128; 3] {
 
 pub fn rotate(q: Quat, v: V3) -> V3 {
     let axis = [q.x, q.y, q.z].map(i128::from);
-    let place = [v.x, v.y, v.z].map(i128::from);
-    let once = cross(axis, place);
+    let location = [v.x, v.y, v.z].map(i128::from);
+    let once = cross(axis, location);
     let twice = cross(axis, once);
-    let moved = |i: usize| clamp(place[i] + rdiv(2 * q.w as i128 * once[i] + 2 * twice[i], LIM));
+    let moved = |i: usize| clamp(location[i] + rdiv(2 * q.w as i128 * once[i] + 2 * twice[i], LIM));
     V3 { x: moved(0), y: moved(1), z: moved(2) }
 }
 
@@ -160,7 +160,7 @@ impl Random {
         self.within(10_000_000)
     }
 
-    pub fn place(&mut self) -> V3 {
+    pub fn location(&mut self) -> V3 {
         let [x, y, z] = [(); 3].map(|()| self.coordinate());
         V3 { x, y, z }
     }
@@ -175,7 +175,7 @@ impl Random {
     }
 
     pub fn transform(&mut self) -> Xform {
-        let loc = self.place();
+        let loc = self.location();
         let rot = normal(self.raw());
         let scale = self.scale();
         Xform { loc, rot, scale }
@@ -186,7 +186,7 @@ pub fn mix(sum: i64, value: i64) -> i64 {
     sum.rotate_left(5).wrapping_add(value)
 }
 
-pub fn mix_place(sum: i64, v: V3) -> i64 {
+pub fn mix_location(sum: i64, v: V3) -> i64 {
     mix(mix(mix(sum, v.x), v.y), v.z)
 }
 
@@ -195,7 +195,7 @@ pub fn mix_rotation(sum: i64, q: Quat) -> i64 {
 }
 
 pub fn mix_transform(sum: i64, x: &Xform) -> i64 {
-    mix(mix_rotation(mix_place(sum, x.loc), x.rot), x.scale)
+    mix(mix_rotation(mix_location(sum, x.loc), x.rot), x.scale)
 }
 
 /// The rounds that the program's argument gives.

@@ -65,10 +65,10 @@ fn time_roots(name: &str, rounds: u32, random: &mut Random, more: u128) {
     timed(name, rounds, MANY as u32, |start| squares.iter().fold(start, |sum, n| mix(sum, isqrt(*n) as i64)));
 }
 
-fn time_carry(name: &str, rounds: u32, transform: &Xform, places: &[V3]) {
+fn time_carry(name: &str, rounds: u32, transform: &Xform, locations: &[V3]) {
     timed(name, rounds, MANY as u32, |start| {
         let transform = black_box(transform);
-        places.iter().fold(start, |sum, place| mix_place(sum, carry(transform, *place)))
+        locations.iter().fold(start, |sum, location| mix_location(sum, carry(transform, *location)))
     });
 }
 
@@ -76,14 +76,14 @@ fn main() {
     let rounds = rounds();
     let mut random = Random::new();
     let raws: Vec<[i64; 4]> = (0..MANY).map(|_| random.raw()).collect();
-    let places: Vec<V3> = (0..MANY).map(|_| random.place()).collect();
+    let locations: Vec<V3> = (0..MANY).map(|_| random.location()).collect();
     let transforms: Vec<Xform> = (0..MANY).map(|_| random.transform()).collect();
     let parent = random.transform();
     timed("normal", rounds, MANY as u32, |start| raws.iter().fold(start, |sum, raw| mix_rotation(sum, normal(*raw))));
     time_roots("isqrt", rounds, &mut random, 1);
     time_roots("isqrt-of-a-product", rounds, &mut random, 999_999_999_989);
-    time_carry("carry", rounds, &parent, &places);
-    time_carry("carry-by-the-identity", rounds, &IDENTITY, &places);
+    time_carry("carry", rounds, &parent, &locations);
+    time_carry("carry-by-the-identity", rounds, &IDENTITY, &locations);
     timed("compose", rounds, MANY as u32, |start| {
         let parent = black_box(&parent);
         transforms.iter().fold(start, |sum, child| mix_transform(sum, &compose(parent, child)))

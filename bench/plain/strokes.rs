@@ -63,7 +63,7 @@ fn last(strokes: &Strokes) -> i64 {
 }
 
 fn mix_all(sum: i64, strokes: &Strokes) -> i64 {
-    strokes.iter().flatten().fold(sum, |sum, p| mix_place(sum, *p))
+    strokes.iter().flatten().fold(sum, |sum, p| mix_location(sum, *p))
 }
 
 /// Prints a checksum of all the points that are made, and then times making them.
@@ -86,15 +86,15 @@ fn main() {
     keep_the_heap();
     for count in STROKES {
         let mut random = Random::new();
-        let strokes: Strokes = (0..count).map(|_| (0..300 / count).map(|_| random.place()).collect()).collect();
-        let places: Vec<V3> = (0..EFFECTS).map(|_| random.place()).collect();
+        let strokes: Strokes = (0..count).map(|_| (0..300 / count).map(|_| random.location()).collect()).collect();
+        let locations: Vec<V3> = (0..EFFECTS).map(|_| random.location()).collect();
         let scales: Vec<i64> = (0..EFFECTS).map(|_| random.scale()).collect();
         let transforms: Vec<Xform> = (0..EFFECTS).map(|_| random.transform()).collect();
-        time_making(&format!("offset/{count}"), rounds, 300, |i| offset(&strokes, places[i], scales[i]));
-        time_making(&format!("mirror/{count}"), rounds, 2_400, |i| mirror(&strokes, places[i]));
-        time_making(&format!("array/{count}"), rounds, 16_200, |i| array(&strokes, 54, places[i]));
-        time_making(&format!("layer/{count}"), rounds, 300, |i| moved_layer(&strokes, places[i]));
-        time_making(&format!("bound-layer/{count}"), rounds, 300, |i| layer(&strokes, places[i], &transforms[i]));
-        time_making(&format!("bound-layer-at-rest/{count}"), rounds, 300, |i| layer(&strokes, places[i], black_box(&IDENTITY)));
+        time_making(&format!("offset/{count}"), rounds, 300, |i| offset(&strokes, locations[i], scales[i]));
+        time_making(&format!("mirror/{count}"), rounds, 2_400, |i| mirror(&strokes, locations[i]));
+        time_making(&format!("array/{count}"), rounds, 16_200, |i| array(&strokes, 54, locations[i]));
+        time_making(&format!("layer/{count}"), rounds, 300, |i| moved_layer(&strokes, locations[i]));
+        time_making(&format!("bound-layer/{count}"), rounds, 300, |i| layer(&strokes, locations[i], &transforms[i]));
+        time_making(&format!("bound-layer-at-rest/{count}"), rounds, 300, |i| layer(&strokes, locations[i], black_box(&IDENTITY)));
     }
 }
