@@ -1,0 +1,3 @@
+-- what a reader has to believe: the statement
+pub mod Text
+pub mod Sets
