@@ -69,8 +69,8 @@ def program_files(name):
     return {path.with_suffix(""): source for path, source in {**common, **files}.items()}
 
 
-def build_proved(name, libraries, top):
-    """Builds the proved side of a name over the crates of a repository, and returns the program."""
+def build_proved(name, libraries, top, kit=()):
+    """Builds the proved side of a name over crates of a repository and of the kit, and returns the program."""
     suffix = f"{os.getuid()}-{zlib.crc32(str(top).encode()):08x}"
     folder = pathlib.Path(tempfile.gettempdir()) / f"rigplay-bench-{name}-{suffix}"
     program = f"rig_bench_{name}"
@@ -83,7 +83,7 @@ def build_proved(name, libraries, top):
         put(crate_files(top / "crates" / crate), folder / "crates" / crate)
     put(program_files(name), folder / "crates" / program)
     lines = [f"{crate}: {' '.join(crates[crate])}" for crate in own]
-    (folder / "crates.txt").write_text("\n".join([*lines, f"{program}: {' '.join(libraries)}"]) + "\n")
+    (folder / "crates.txt").write_text("\n".join([*lines, f"{program}: {' '.join([*libraries, *kit])}"]) + "\n")
     shutil.copyfile(top / "HANDLES", folder / "HANDLES")
     subprocess.run(["git", "init", "-q", folder], check=True)
     print(f"{sys.argv[0]}: building the proved side in {folder}", file=sys.stderr)
@@ -128,12 +128,17 @@ def fastest_of_both(proved, plain, rounds, settings):
     return best
 
 
-def measure(name, libraries, rounds, *many_settings):
-    """Builds both sides of a name, over the repository that the script's argument gives, else its own, and runs them under
-    each of some settings."""
+def repository():
+    """The repository that the script's argument gives, else its own."""
     top = pathlib.Path(sys.argv[1]).resolve() if len(sys.argv) > 1 else TOP
     if not (top / "crates.txt").is_file():
         fail(f"{top} has no crates.txt")
+    return top
+
+
+def measure(name, libraries, rounds, *many_settings):
+    """Builds both sides of a name and runs them under each of some settings."""
+    top = repository()
     proved = build_proved(name, libraries, top)
     with tempfile.TemporaryDirectory() as folder:
         plain = build_plain(name, folder)
