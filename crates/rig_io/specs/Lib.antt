@@ -4,3 +4,4 @@ pub mod Bytes
 pub mod Got
 pub mod Put
 pub mod Memory
+pub mod Lends

@@ -19,7 +19,7 @@
 //! - [`read_all`] and [`write_all`] try nothing again: with Ok no call failed.
 //! - [`read_all`] takes at most `limit` bytes, and one more where it answers [`ReadStop::TooLong`].
 //! - A count, of faults or of a [`Tally`], begins at 0 and stands still at `u64::MAX`.
-//! - A [`List`] is its values: a clone has clones of them, and `==` compares them index by index.
+//! - A [`List`] is its values: a clone has clones of them, and `==` compares them index by index. It is changed in place.
 //! - A [`Share`] gives another owner of an equal value.
 //!
 //! Only [`StdSource`] and [`StdSink`] touch the system, and no contract tells what bytes it gives or takes. Nothing here

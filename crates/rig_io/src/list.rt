@@ -1,5 +1,10 @@
 //! A list of values that contracts see as the list itself. Its capacity and its address are not seen.
 ghost use Rattle.std.specs.Prelude.{◌≡◌, ◌==◌, ◌<◌, ◌++◌, [], ◌∷◌, length, slice_get, slice_set, Some, IfOk, OnOk, OnErr};
+ghost use Rattle.std.specs.Prelude.{◌≤◌, insert, remove};
+ghost use Rattle.std.specs.Fn.{CalledAt};
+ghost use Rattle.std.specs.List.Retain.{IsFiltered};
+ghost use Rattle.std.specs.Borrow.{sem};
+ghost use Rattle.rig_io.specs.Lends.{LendsValue};
 
 use crate::memory::NoMemory;
 use std::alloc::{AllocError, Global};
@@ -106,11 +111,55 @@ impl<T> List<T> {
         Ok(())
     }
 
+    /// Puts a value in at an index, before the value that is there.
+    ///
+    /// # Errors
+    ///
+    /// [`NoMemory`]: the list is unchanged, and the value is lost.
+    pub fn insert(&mut self, index: usize, value: T) -> Result<(), NoMemory>
+    where
+        T: Drop,
+        requires { index ≤ length self.old }
+        ensures ok { OnOk result (self.new ≡ insert self.old index value) }
+        ensures err { OnErr result (self.new ≡ self.old) }
+    {
+        self.items.insert(index, value)?;
+        Ok(())
+    }
+
+    /// Takes the value at an index out. Those behind it close up.
+    pub fn remove(&mut self, index: usize) -> T
+        requires { index < length self.old }
+        ensures value { slice_get self.old index ≡ Some result }
+        ensures rest { self.new ≡ remove self.old index }
+    {
+        self.items.remove(index)
+    }
+
+    /// Keeps the values for which the test answers `true`, in their order.
+    pub fn retain<F: FnMut(&T) -> bool>(&mut self, test: F)
+    where
+        T: Drop,
+        requires { F.IsAlwaysCallable test }
+        ensures { IsFiltered (CalledAt F.FnMut) test self.old self.new }
+    {
+        self.items.retain(test);
+    }
+
     /// All the values.
     pub fn as_slice(&self) -> &[T]
         ensures { result.now ≡ self.now }
     {
         self.items.as_slice()
+    }
+
+    /// The value at an index, to be changed in place.
+    pub fn get_mut(&mut self, index: usize) -> &mut T
+        requires { index < length self.old }
+        ensures* writes_back { sem 𝓛 (LendsValue T.row self.entry index result) }
+        ensures value { slice_get self.old index ≡ Some result.now }
+    {
+        &mut self.items[index]
     }
 
     /// The values as a vector, with no allocation.

@@ -282,7 +282,8 @@ impl Sink for MemSink {
         ensures faults { self.old.faults ≤ self.new.faults }
 
         // Which of the two it is, and what each leaves.
-        ensures fails { (result ≡ Put.Failed) ↔ IsTrue (is_named self.old.fails self.old.calls || nat_le self.old.room (length self.old.written)) }
+        ensures fails { (result ≡ Put.Failed) ↔
+            IsTrue (is_named self.old.fails self.old.calls || nat_le self.old.room (length self.old.written)) }
         ensures count { OnTook result (λ n. n ≡ min (min self.old.most (length piece.now)) (self.old.room - length self.old.written)) }
         ensures after_bytes { OnTook result (λ n. self.new ≡ sink_after self.old (self.old.written ++ take n piece.now)) }
         ensures after_fault { result ≡ Put.Failed → self.new ≡ sink_failed self.old }

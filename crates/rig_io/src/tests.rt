@@ -98,6 +98,19 @@ fn a_list_keeps_its_values_in_order(rt: HostRuntime) -> Result<(), Fail> {
 }
 
 #[test]
+fn a_list_is_changed_in_place(rt: HostRuntime) -> Result<(), Fail> {
+    let mut list = List::from(Vec::from_slice(rt.alloc(), [2u32, 3, 5].as_slice())?);
+    *list.get_mut(1) = 4;
+    list.insert(0, 1)?;
+    assert_eq!(rt; list.as_slice(), [1, 2, 4, 5].as_slice());
+    assert_eq!(rt; list.remove(2), 4);
+    list.insert(3, 9)?;
+    list.retain(|value| *value != 5);
+    assert_eq!(rt; list.as_slice(), [1, 2, 9].as_slice());
+    Ok(())
+}
+
+#[test]
 fn a_count_begins_at_0_and_rises_by_one(rt: HostRuntime) {
     let mut count = Count::new();
     count.tick();

@@ -3,6 +3,7 @@ pub mod Rank
 pub mod Kept
 pub mod Members
 pub mod ValueOver
+pub mod Examples
 -- what the proofs need
 pub mod Lists
 pub mod FoundObject

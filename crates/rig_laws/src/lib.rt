@@ -11,11 +11,13 @@
 //!   values of its sources with no depth, and no other values follow so.
 //! - [`operations`]: what an operation of a scene needs is an operation of it. In-links that aren't cut make no cycle,
 //!   and there are fewer than 262,144.
+//! - [`examples`]: what this crate's own definitions give on small scenes.
 //!
 //! Each law is a function without a body, whose contract is the law. It is also a lemma in `specs/`, which proofs of the
-//! crates above cite. Nothing here runs. What a single definition gives on an example stands in `rig_scene`.
+//! crates above cite. Nothing here runs. What a definition of `rig_scene` gives on an example stands there.
 #![tactic(auto)]
 
+pub mod examples;
 pub mod operations;
 pub mod reads;
 pub mod values;

@@ -1,5 +1,5 @@
 -- How the plain engine stands after steps from an opening scene, and what one pass over the objects does.
-use Rattle.std.specs.Prelude.{◌≡◌, ℕ, ◌+◌, ◌<◌, ℤ, ◌&&◌, ◌||◌, List, [], ◌∷◌, length, map, slice_get, Bool, true, false, not, Option, Some, None, is_some, if◌then◌else◌}
+use Rattle.std.specs.Prelude.{◌≡◌, ℕ, ◌+◌, ◌<◌, ℤ, ◌&&◌, ◌||◌, List, [], ◌∷◌, ◌++◌, length, map, slice_get, Bool, true, false, not, Option, Some, None, is_some, if◌then◌else◌}
 use Rattle.std.specs.Ordering.{int_eq}
 use Rattle.rig_fixed.specs.declared.vector.V3.{V3}
 use Rattle.rig_scene.specs.declared.channel.Channel.TheVariants.{LocX, LocY, LocZ}
@@ -7,6 +7,7 @@ use Rattle.rig_scene.specs.declared.object.Object.{Object}
 use Rattle.rig_scene.specs.Scene.{SceneRecord}
 use Rattle.rig_play.specs.declared.script.Step.{Step}
 use Rattle.rig_play.specs.declared.engine.Engine.{Engine}
+use Rattle.rig_play.specs.declared.engine.Pass.{Pass}
 use Rattle.rig_play.specs.Script.{last_frame, was_set}
 use Rattle.rig_play.specs.Edited.{after}
 use Rattle.rig_play.specs.Scratch.{channel_number, location}
@@ -31,6 +32,14 @@ pub record Follows (base : SceneRecord) (steps : List Step) (engine : Engine) : 
   pub kept : (frame : ℤ) → last_frame steps ≡ Some frame → (index : ℕ) (object : Object) →
       slice_get (after base steps).objects index ≡ Some object → was_set steps index ≡ false →
       slice_get engine.kept.items index ≡ Some (location (after base steps) object frame)
+
+-- a step takes the old engine to the new: whatever steps the old one follows, the new one follows those and this step
+abbrev pub FollowsOn : SceneRecord → Step → Engine → Engine → Type 0
+FollowsOn base step old new = (steps : List Step) → Follows base steps old → Follows base (steps ++ step ∷ []) new
+
+-- where the objects stand at a frame after these steps, from scratch
+abbrev pub locations_after : SceneRecord → List Step → ℤ → List V3
+locations_after base steps frame = map (λ o. location (after base steps) o frame) (after base steps).objects
 
 -- an engine is for so many objects
 pub record IsFor (count : ℕ) (engine : Engine) : Type 0 where
@@ -76,3 +85,8 @@ all_stand scene first moved frame (object ∷ objects) (original ∷ originals) 
 all_stand scene first moved frame (object ∷ objects) (original ∷ originals) (mark ∷ marks) [] = []
 all_stand scene first moved frame (object ∷ objects) (original ∷ originals) (mark ∷ marks) (k ∷ kept) =
     stand scene first moved frame object original mark k ∷ all_stand scene first moved frame objects originals marks kept
+
+-- where the objects of a scene stand after a pass of an engine
+abbrev pub stand_after : SceneRecord → Pass → Engine → List V3
+stand_after scene pass engine =
+    all_stand scene pass.first pass.moved pass.frame scene.objects engine.originals.items engine.marks.items engine.kept.items

@@ -25,7 +25,8 @@ pub(crate) fn location_at(scene: &Scene, object: &Object, original: V3, frame: i
 
 // The action of an object.
 fn object_action<'a>(scene: &'a Scene, object: &Object) -> Option<&'a Action>
-    ensures { MatchOption result (action_of scene.now object.now ≡ None) (λ a. (action_of scene.now object.now ≡ Some a.now) × IsTrue (is_action a.now)) }
+    ensures { MatchOption result (action_of scene.now object.now ≡ None)
+        (λ a. (action_of scene.now object.now ≡ Some a.now) × IsTrue (is_action a.now)) }
 {
     let index = object.action?;
     scene.actions.as_slice().get(index as usize)
@@ -45,7 +46,8 @@ fn number_at(action: &Action, channel: Channel, original: Fx, frame: i32) -> Fx
 // The curve of an object's own channel.
 fn own_curve(action: &Action, channel: Channel) -> Option<&Curve>
     requires { IsTrue (is_action action.now) }
-    ensures { MatchOption result (curve_of channel action.now ≡ None) (λ c. (curve_of channel action.now ≡ Some c.now) × IsTrue (are_keys c.now.keys)) }
+    ensures { MatchOption result (curve_of channel action.now ≡ None)
+        (λ c. (curve_of channel action.now ≡ Some c.now) × IsTrue (are_keys c.now.keys)) }
 {
     action
         .curves

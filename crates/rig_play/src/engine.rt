@@ -1,15 +1,14 @@
 //! The plain incremental engine: keeps where each object stood, and evaluates again just what is flushed.
-ghost use Rattle.std.specs.Prelude.{◌≡◌, ◌<◌, ℕ, ◌+◌, ◌*◌, ◌≤◌, length, List, [], ◌∷◌, ◌++◌, map, IfOk, false, ◌&&◌, is_some, if◌then◌else◌};
+ghost use Rattle.std.specs.Prelude.{◌≡◌, ◌<◌, ℕ, ◌+◌, ◌*◌, ◌≤◌, length, List, [], map, IfOk, false, ◌&&◌, is_some, if◌then◌else◌};
 ghost use Rattle.rig_scene.specs.declared.limits.TheConstants.{MAX_OBJECTS};
 ghost use Rattle.rig_io.specs.Faults.{count_end};
 ghost use Rattle.rig_scene.specs.Scene.{SceneRecord};
 ghost use Rattle.rig_play.specs.declared.script.Step.{Step};
 ghost use Rattle.rig_play.specs.declared.script.Step.TheVariants.{Frame, SetLocation};
-ghost use Rattle.rig_play.specs.Edited.{after};
 ghost use Rattle.rig_play.specs.Flush.{flushed};
-ghost use Rattle.rig_play.specs.Follows.{Follows, IsFor, is_first, is_moved, is_reached, object_ran, objects_ran, stand, all_stand};
+ghost use Rattle.rig_play.specs.Follows.{Follows, FollowsOn, IsFor, is_first, is_moved, is_reached};
+ghost use Rattle.rig_play.specs.Follows.{object_ran, objects_ran, stand, stand_after, locations_after};
 ghost use Rattle.rig_play.specs.Operations.{operations, object_operations};
-ghost use Rattle.rig_play.specs.Scratch.{location};
 
 use crate::curve::location_at;
 use rig_fixed::{Fx, V3};
@@ -65,7 +64,7 @@ impl Engine {
     pub(crate) fn set(&mut self, object: u32, axis: Axis, value: Fx)
         requires originals { object < length self.old.originals.items }
         requires marks { object < length self.old.marks.items }
-        ensures follows { (base : SceneRecord) (steps : List Step) → Follows base steps self.old → Follows base (steps ++ SetLocation object axis value ∷ []) self.new }
+        ensures follows { (base : SceneRecord) → FollowsOn base (SetLocation object axis value) self.old self.new }
         ensures sized { (count : ℕ) → IsFor count self.old → IsFor count self.new }
     {
         let index = object as usize;
@@ -78,8 +77,9 @@ impl Engine {
     pub(crate) fn evaluate<Y: Tally>(&mut self, scene: &Scene, frame: i32, tally: &mut Y) -> u32
         requires sized { IsFor (length scene.now.objects) self.old }
         requires room { Y.count tally.old + 1 + 3 * length scene.now.objects ≤ count_end }
-        ensures follows { (steps : List Step) → Follows scene.now steps self.old → Follows scene.now (steps ++ Frame frame ∷ []) self.new }
-        ensures values { (steps : List Step) → Follows scene.now steps self.old → self.new.kept.items ≡ map (λ o. location (after scene.now steps) o frame) (after scene.now steps).objects }
+        ensures follows { FollowsOn scene.now (Frame frame) self.old self.new }
+        ensures values { (steps : List Step) → Follows scene.now steps self.old →
+            self.new.kept.items ≡ locations_after scene.now steps frame }
         ensures ran { (steps : List Step) → Follows scene.now steps self.old → result ≡ length (flushed scene.now steps frame) }
         ensures ticks { Y.count tally.new ≡ Y.count tally.old + result }
         ensures within { result ≤ 1 + 3 * length scene.now.objects }
@@ -97,7 +97,7 @@ impl Engine {
         requires sized { IsFor (length scene.now.objects) self.old }
         requires room { Y.count tally.old + 3 * length scene.now.objects ≤ count_end }
         ensures ran { result ≡ objects_ran pass.first pass.moved scene.now.objects self.old.marks.items }
-        ensures kept { self.new.kept.items ≡ all_stand scene.now pass.first pass.moved pass.frame scene.now.objects self.old.originals.items self.old.marks.items self.old.kept.items }
+        ensures kept { self.new.kept.items ≡ stand_after scene.now pass self.old }
         ensures marks { self.new.marks.items ≡ map (λ _. false) self.old.marks.items }
         ensures originals { self.new.originals ≡ self.old.originals }
         ensures last { self.new.last ≡ self.old.last }

@@ -7,7 +7,8 @@ ghost use Rattle.serde_json.specs.Find.{get};
 ghost use Rattle.serde_json.specs.View.{view, items_view};
 ghost use Rattle.rig_scene.specs.Text.{same_text};
 ghost use Rattle.rig_play.specs.Unread.{Gives};
-ghost use Rattle.rig_play.specs.Members.{has_only, whole_in, fixed_in, frame_in, name_in, has_text, is_text, vector_in, vector_of, each_from, list_in};
+ghost use Rattle.rig_play.specs.Members.{has_only, whole_in, fixed_in, frame_in, name_in, has_text, is_text, vector_in};
+ghost use Rattle.rig_play.specs.Members.{vector_of, each_from, list_in};
 
 use crate::form::Unread;
 use rig_fixed::{Fx, LIMIT, V3};
@@ -52,7 +53,8 @@ pub(crate) fn is_text(text: &str, value: &Value) -> bool
 
 /// A member that has to be there.
 pub(crate) fn member<'v>(name: &str, value: &'v Value) -> Result<&'v Value, Unread>
-    ensures { MatchResult result (λ found. get name.now (view value.now) ≡ Some (view found.now)) (λ unread. (unread ≡ Unread.OtherForm) × (get name.now (view value.now) ≡ None)) }
+    ensures { MatchResult result (λ found. get name.now (view value.now) ≡ Some (view found.now))
+        (λ unread. (unread ≡ Unread.OtherForm) × (get name.now (view value.now) ≡ None)) }
 {
     value.get(name).ok_or(Unread::OtherForm)
 }

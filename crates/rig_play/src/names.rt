@@ -52,7 +52,8 @@ impl Names {
     /// Adds a name at the end, unless it is there, and answers whether it was new.
     pub(crate) fn add(&mut self, alloc: Global, text: &str) -> Result<bool, AllocError>
         requires { length self.old < MAX_ACTIONS }
-        ensures { IfOk result (λ added. (added ≡ not (list_any (same_text text.now) self.old)) × (self.new ≡ (if added then self.old ++ text.now ∷ [] else self.old))) }
+        ensures { IfOk result (λ added. (added ≡ not (list_any (same_text text.now) self.old))
+            × (self.new ≡ (if added then self.old ++ text.now ∷ [] else self.old))) }
     {
         let (_, added) = self.texts.insert_full(String::from_str(alloc, text)?)?;
         Ok(added)

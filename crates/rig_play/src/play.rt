@@ -10,7 +10,7 @@ ghost use Rattle.rig_play.specs.Operations.{operations};
 ghost use Rattle.rig_play.specs.Flush.{ran_at};
 ghost use Rattle.rig_play.specs.Text.{line_feed, opening_text, frame_line, framed, accepted_line, reply_text};
 ghost use Rattle.rig_play.specs.Lines.{object_lines};
-ghost use Rattle.rig_play.specs.Follows.{Follows, IsFor};
+ghost use Rattle.rig_play.specs.Follows.{Follows, FollowsOn, IsFor};
 ghost use Rattle.rig_play.specs.Run.{text_of, ran_in};
 
 use crate::engine::{Engine, operation_count};
@@ -81,8 +81,7 @@ fn reply<Y: Tally>(
     requires room { Y.count tally.old + 1 + 3 * length scene.now.objects ≤ count_end }
     ensures text { (steps : List Step) → Follows scene.now steps engine.old → number ≡ length steps →
         IfOk result (λ text. text.items ≡ reply_text scene.now steps step) }
-    ensures follows { (steps : List Step) → Follows scene.now steps engine.old →
-        Follows scene.now (steps ++ step ∷ []) engine.new }
+    ensures follows { FollowsOn scene.now step engine.old engine.new }
     ensures ticks { (steps : List Step) → Follows scene.now steps engine.old →
         Y.count tally.new ≡ Y.count tally.old + ran_at scene.now steps step }
     ensures few { Y.count tally.new ≤ Y.count tally.old + 1 + 3 * length scene.now.objects }
@@ -112,8 +111,7 @@ fn frame_reply<Y: Tally>(
     requires room { Y.count tally.old + 1 + 3 * length scene.now.objects ≤ count_end }
     ensures text { (steps : List Step) → Follows scene.now steps engine.old → number ≡ length steps →
         IfOk result (λ text. text.items ≡ reply_text scene.now steps (Frame frame)) }
-    ensures follows { (steps : List Step) → Follows scene.now steps engine.old →
-        Follows scene.now (steps ++ Frame frame ∷ []) engine.new }
+    ensures follows { FollowsOn scene.now (Frame frame) engine.old engine.new }
     ensures ticks { (steps : List Step) → Follows scene.now steps engine.old →
         Y.count tally.new ≡ Y.count tally.old + ran_at scene.now steps (Frame frame) }
     ensures few { Y.count tally.new ≤ Y.count tally.old + 1 + 3 * length scene.now.objects }

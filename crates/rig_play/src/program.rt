@@ -6,7 +6,8 @@ ghost use Rattle.rig_io.specs.Bytes.{GaveAtMost, GaveOneMore, Appended, Appended
 ghost use Rattle.rig_play.specs.Played.{InputRecord};
 ghost use Rattle.rig_play.specs.Form.{input_of};
 ghost use Rattle.rig_play.specs.Words.{is_eval};
-ghost use Rattle.rig_play.specs.Run.{AreTallies, Plays, ReadNoInput, WrotePrefix, EndsAs, CountsAtMost, usage_line, unbuilt_line, text_of, text_for, ran_in, ran_for};
+ghost use Rattle.rig_play.specs.Run.{AreTallies, Plays, ReadNoInput, WrotePrefix, EndsAs, CountsAtMost, usage_line, unbuilt_line};
+ghost use Rattle.rig_play.specs.Run.{text_of, text_for, ran_in, ran_for};
 
 use crate::form::{Unread, input_of};
 use crate::play::play;

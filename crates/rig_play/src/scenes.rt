@@ -103,7 +103,8 @@ fn are_each_actions(actions: &[Action]) -> bool
 }
 
 fn objects_in(alloc: Global, actions: &Names, value: &Value) -> Result<List<Object>, Unread>
-    ensures { Gives result (option_and_then (at_most MAX_OBJECTS) (member_or [] (codes "objects") (list_in (object_in actions.now)) (view value.now))) }
+    ensures { Gives result (option_and_then (at_most MAX_OBJECTS)
+        (member_or [] (codes "objects") (list_in (object_in actions.now)) (view value.now))) }
 {
     match value.get("objects") {
         Some(objects) => few_objects_in(alloc, actions, objects),

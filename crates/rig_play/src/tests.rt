@@ -13,8 +13,12 @@ const EMPTY_SCENE: &str =
 const EMPTY_SCENE_TEXT: &str =
     "turn 0 track 0 step 0 look\ntrack 0 viewport\nstep 0 frame 1 turn 0 ran 1 of 1\nframe 1 viewport\ncuts 0\nend\n";
 
-const TWO_OBJECTS: &str =
-    r#"{"scene":{"version":1,"actions":[{"name":"A","curves":[{"channel":"loc.x","keys":[{"frame":1,"value":10,"interp":"constant"},{"frame":5,"value":20,"interp":"constant"}]}]}],"objects":[{"name":"P","kind":"empty","action":"A"},{"name":"Q","kind":"empty","loc":[1,2,3]}]},"script":{"tracks":[{"mode":"viewport","steps":[{"frame":1},{"edit":"set","object":"Q","channel":"loc.y","value":7},{"frame":1},{"frame":5}]}]}}"#;
+const TWO_OBJECTS: &str = r#"{"scene":{"version":1,
+    "actions":[{"name":"A","curves":[{"channel":"loc.x","keys":[
+        {"frame":1,"value":10,"interp":"constant"},{"frame":5,"value":20,"interp":"constant"}]}]}],
+    "objects":[{"name":"P","kind":"empty","action":"A"},{"name":"Q","kind":"empty","loc":[1,2,3]}]},
+"script":{"tracks":[{"mode":"viewport","steps":[{"frame":1},
+    {"edit":"set","object":"Q","channel":"loc.y","value":7},{"frame":1},{"frame":5}]}]}}"#;
 
 const TWO_OBJECTS_TEXT: &str = "turn 0 track 0 step 0 look
 turn 1 track 0 step 1 accepted

@@ -3,7 +3,8 @@ ghost use Rattle.std.specs.Prelude.{◌≡◌, ◌≤◌, ◌++◌, length, IfOk
 ghost use Rattle.std.specs.Fmt.{signed_decimal};
 ghost use Rattle.std.specs.List.{flat_map};
 ghost use Rattle.rig_scene.specs.declared.limits.TheConstants.{MAX_STEPS};
-ghost use Rattle.rig_play.specs.Text.{spaced, transform_numbers, named_line, turn_line, ran_words, frame_line, accepted_line, frame_head, framed, history_from, reply_of};
+ghost use Rattle.rig_play.specs.Text.{spaced, transform_numbers, named_line, turn_line, ran_words, frame_line, accepted_line};
+ghost use Rattle.rig_play.specs.Text.{frame_head, framed, history_from, reply_of};
 ghost use Rattle.rig_play.specs.Lines.{object_lines};
 ghost use Rattle.rig_play.specs.Scratch.{standing};
 

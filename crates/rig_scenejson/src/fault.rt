@@ -127,7 +127,7 @@ impl<T: Drop> From<AllocFailed<T>> for SceneStop {
 }
 
 /// The fault of the value itself.
-pub(crate) fn stop_for(alloc: Global, cause: Cause) -> SceneStop
+pub fn stop_for(alloc: Global, cause: Cause) -> SceneStop
     ensures { result ≡ SceneStop.Fault (record { cause = cause; place = [] }) }
 {
     SceneStop::Fault(Fault {

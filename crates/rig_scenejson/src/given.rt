@@ -102,7 +102,7 @@ fn truth_of(value: &Value) -> bool
 // ---- items
 
 /// The items of an array, none where it is no array.
-pub(crate) fn items_of(value: &Value) -> &[Value]
+pub fn items_of(value: &Value) -> &[Value]
     ensures { items_view result.now ≡ items_of (view value.now) }
 {
     match value.as_array() {

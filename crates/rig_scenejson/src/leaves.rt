@@ -16,7 +16,7 @@ use crate::value::number;
 use rig_fixed::LIMIT;
 use rig_names::Names;
 use rig_scene::limits::{MAX_FRAME, MIN_FRAME};
-use rig_scene::{Axis, Channel, Name};
+use rig_scene::{Channel, Name};
 use serde_json::Value;
 use std::alloc::Global;
 

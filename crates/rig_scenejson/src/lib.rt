@@ -23,7 +23,8 @@
 //! - A scene is answered exactly where there is no fault, and it is the one that the members give. Want of memory is the only
 //!   other answer.
 //! - Reading takes no step that walks over all names: they are found by their hash.
-//! - [`field`], [`number`], [`name`] and [`path`] read single members, for readers of other records in the same format.
+//! - [`field`], [`number`], [`name`] and [`path`] read single members, for readers of other records in the same format. A
+//!   [`Reader`] reads the items of a list ([`read_items`]), and [`within`] gives a fault its place in the value around.
 //!
 //! Nothing here parses text, or reads a script.
 #![tactic(auto)]
@@ -39,11 +40,13 @@ mod pass_two;
 mod reader;
 mod scene;
 mod test;
-#[cfg(test)]
-mod tests;
 mod value;
 
-pub use fault::{Cause, Fault, Hop, Place, SceneStop};
+pub use fault::{Cause, Fault, Hop, Place, SceneStop, stop_for};
+pub use given::items_of;
 pub use member::Member;
+pub use pass_one::records::{is_kind, text_at};
+pub use reader::{Reader, read_items};
 pub use scene::scene_of;
+pub use test::{is_record, item_hop, within};
 pub use value::{NameFault, PathFault, field, name, number, path};

@@ -7,7 +7,8 @@ ghost use Rattle.rig_scenejson.specs.declared.member.Member.TheVariants as m;
 ghost use Rattle.rig_scenejson.specs.Tests.{Reads, first, field, required, optional};
 ghost use Rattle.rig_scenejson.specs.Value.{text_of};
 ghost use Rattle.rig_scenejson.specs.Given.{text_at, index_of, rig_at, bones_at, bones_named};
-ghost use Rattle.rig_scenejson.specs.PassTwo.{known_faults, is_armature_rig, bone_of_faults, data_bones, layers_named, armature_references_of};
+ghost use Rattle.rig_scenejson.specs.PassTwo.{known_faults, is_armature_rig, bone_of_faults, data_bones, layers_named};
+ghost use Rattle.rig_scenejson.specs.PassTwo.{armature_references_of};
 
 use crate::before::{Catalog, Rig};
 use crate::fault::{Cause, Hop, SceneStop, moved, stop_for};

@@ -4,7 +4,8 @@
 ghost use Rattle.std.specs.Prelude.{◌++◌};
 ghost use Rattle.serde_json.specs.View.{view};
 ghost use Rattle.rig_scenejson.specs.Tests.{Tests, Reads, first};
-ghost use Rattle.rig_scenejson.specs.PassOne.{after_any, version_faults, actions_faults, after_actions, armatures_faults, after_armatures, pencils_faults, after_pencils};
+ghost use Rattle.rig_scenejson.specs.PassOne.{after_any, version_faults, actions_faults, after_actions, armatures_faults};
+ghost use Rattle.rig_scenejson.specs.PassOne.{after_armatures, pencils_faults, after_pencils};
 ghost use Rattle.rig_scenejson.specs.PassOne.{objects_faults, objects_after, drivers_faults, pass_one, catalog_of};
 
 mod actions;

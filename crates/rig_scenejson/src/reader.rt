@@ -20,7 +20,7 @@ use serde_json::Value;
 use std::alloc::Global;
 
 /// Reads an item of a list by its index, with what stood before it, and tests what it refers to.
-pub(crate) trait Reader {
+pub trait Reader {
     type Item: Drop;
 
     /// What is kept of the items before.
@@ -75,7 +75,7 @@ pub(crate) fn read_list<R: Reader>(
 
 /// Reads items one after the other.
 #[tactic(auto, using(crate::proofs::EachFrom::values_step, crate::proofs::EachFrom::found_step, crate::proofs::Counts::item_count_of_view))]
-fn read_items<R: Reader>(
+pub fn read_items<R: Reader>(
     alloc: Global,
     reader: &R,
     before: &mut R::Before,

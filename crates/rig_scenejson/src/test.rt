@@ -30,7 +30,7 @@ pub(crate) trait Test {
 }
 
 /// Tests that the value is a JSON object.
-pub(crate) fn is_record(alloc: Global, value: &Value) -> Result<(), SceneStop>
+pub fn is_record(alloc: Global, value: &Value) -> Result<(), SceneStop>
     ensures { Tests result (first (record_faults (view value.now))) }
 {
     match value.as_object() {
@@ -73,12 +73,8 @@ pub(crate) fn optional<T: Test>(
     }
 }
 
-// What was answered of a value, as that of the value in which it stands at a hop.
-pub(crate) fn within<T>(
-    alloc: Global,
-    hop: Hop,
-    answer: Result<T, SceneStop>,
-) -> Result<T, SceneStop>
+/// What was answered of a value, as that of the value in which it stands at a hop.
+pub fn within<T>(alloc: Global, hop: Hop, answer: Result<T, SceneStop>) -> Result<T, SceneStop>
     ensures { MovedTo hop answer result }
 {
     match answer {
@@ -155,9 +151,12 @@ fn test_item<T: Test>(
     within(alloc, item_hop(index), test.test(alloc, before, item))
 }
 
-// The hop to an item. What would be beyond 32 bits is told as the greatest number of them.
-pub(crate) fn item_hop(index: usize) -> Hop
+/// The greatest index of a place, as also the most items of a list with no limit of its own.
+pub(crate) const MAX_INDEX: usize = 4_294_967_295;
+
+/// The hop to an item. What would be beyond 32 bits is told as the greatest number of them.
+pub fn item_hop(index: usize) -> Hop
     ensures { result ≡ Hop.Index (min index 4294967295) }
 {
-    Hop::Index(index.min(4_294_967_295) as u32)
+    Hop::Index(index.min(MAX_INDEX) as u32)
 }

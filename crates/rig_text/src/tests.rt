@@ -1,4 +1,7 @@
 //! The lines of faults, byte by byte.
+mod edits;
+mod reading;
+
 use crate::fault_text;
 use rig_io::{List, NoMemory};
 use rig_scene::{Channel, Path};
@@ -55,7 +58,11 @@ fn a_fault_is_a_line(rt: HostRuntime) -> Result<(), Fail> {
 // Two empties, the first with an action of one curve, and what is put in place of parts of their text.
 fn input_of(alloc: Global, version: &str, parent: &str, loc: &str) -> Result<String, Fail> {
     Ok(format!(in alloc;
-        "{{\"scene\":{{\"version\":{version},\"actions\":[{{\"name\":\"Move\",\"curves\":[{{\"channel\":\"loc.x\",\"keys\":[{{\"frame\":1,\"value\":0}},{{\"frame\":11,\"value\":10000000}}]}}]}}],\"objects\":[{{\"name\":\"Root\",\"kind\":\"empty\",\"action\":\"Move\"}},{{\"name\":\"Child\",\"kind\":\"empty\",\"parent\":\"{parent}\",\"loc\":{loc}}}]}}}}"
+        r#"{{"scene":{{"version":{version},
+            "actions":[{{"name":"Move","curves":[
+                {{"channel":"loc.x","keys":[{{"frame":1,"value":0}},{{"frame":11,"value":10000000}}]}}]}}],
+            "objects":[{{"name":"Root","kind":"empty","action":"Move"}},
+                {{"name":"Child","kind":"empty","parent":"{parent}","loc":{loc}}}]}}}}"#
     )?)
 }
 

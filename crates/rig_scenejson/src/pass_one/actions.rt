@@ -7,7 +7,8 @@ ghost use Rattle.rig_names.specs.Sets.{Adds};
 ghost use Rattle.rig_scene.specs.Path.{same_path};
 ghost use Rattle.rig_scenejson.specs.Tests.{Tests, first};
 ghost use Rattle.rig_scenejson.specs.Given.{path_given};
-ghost use Rattle.rig_scenejson.specs.PassOne.{new_path_faults, key_faults, after_key, curve_faults, after_curve, action_faults, after_action, no_actions};
+ghost use Rattle.rig_scenejson.specs.PassOne.{new_path_faults, key_faults, after_key, curve_faults, after_curve, action_faults};
+ghost use Rattle.rig_scenejson.specs.PassOne.{after_action, no_actions};
 
 use crate::before::{ActionsBefore, CurvesBefore};
 use crate::fault::{Cause, Hop, SceneStop, moved, stop_for};

@@ -5,7 +5,8 @@ ghost use Rattle.std.specs.Prelude.{◌≡◌, ◌++◌, ◌∷◌, [], codes, I
 ghost use Rattle.rig_names.specs.Sets.{Adds};
 ghost use Rattle.serde_json.specs.View.{view};
 ghost use Rattle.rig_scenejson.specs.Tests.{Tests, Reads, first};
-ghost use Rattle.rig_scenejson.specs.PassOne.{where_true, after_any, target_faults, space_faults, transform_variable_faults, variable_faults};
+ghost use Rattle.rig_scenejson.specs.PassOne.{where_true, after_any, target_faults, space_faults, transform_variable_faults};
+ghost use Rattle.rig_scenejson.specs.PassOne.{variable_faults};
 ghost use Rattle.rig_scenejson.specs.PassOne.{same_target, new_target_faults, driver_faults, after_driver};
 ghost use Rattle.rig_scenejson.specs.Given.{is_kind, target_given};
 

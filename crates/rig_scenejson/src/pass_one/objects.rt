@@ -5,8 +5,10 @@ ghost use Rattle.std.specs.Prelude.{◌≡◌, ◌-◌, codes, if◌then◌else�
 ghost use Rattle.serde_json.specs.View.{view};
 ghost use Rattle.rig_scenejson.specs.Tests.{Tests, first};
 ghost use Rattle.rig_scenejson.specs.Given.{is_kind};
-ghost use Rattle.rig_scenejson.specs.PassOne.{after_any, after_named, pose_faults, after_pose, offset_faults, mirror_faults, array_faults, effect_faults, modifier_faults};
-ghost use Rattle.rig_scenejson.specs.PassOne.{object_kind_faults, data_faults, parent_faults, relation_faults, pose_list_faults, modifier_list_faults, stack_faults};
+ghost use Rattle.rig_scenejson.specs.PassOne.{after_any, after_named, pose_faults, after_pose, offset_faults, mirror_faults};
+ghost use Rattle.rig_scenejson.specs.PassOne.{array_faults, effect_faults, modifier_faults};
+ghost use Rattle.rig_scenejson.specs.PassOne.{object_kind_faults, data_faults, parent_faults, relation_faults, pose_list_faults};
+ghost use Rattle.rig_scenejson.specs.PassOne.{modifier_list_faults, stack_faults};
 ghost use Rattle.rig_scenejson.specs.PassOne.{object_faults, after_object, rig_of, no_objects};
 
 use crate::before::{ObjectsBefore, Rig};
@@ -15,7 +17,7 @@ use crate::leaves::{AnyName, NUMBER, Truth, VECTOR, Whole, WordOf};
 use crate::member::Member;
 use crate::pass_one::members::{test_list, test_name};
 use crate::pass_one::records::{is_kind, test_transform, text_at, text_of};
-use crate::test::{Test, is_record, optional, required};
+use crate::test::{MAX_INDEX, Test, is_record, optional, required};
 use crate::value::field;
 use rig_io::List;
 use rig_names::Names;
@@ -214,14 +216,7 @@ fn test_pose(alloc: Global, value: &Value) -> Result<(), SceneStop>
         return Ok(());
     }
     let mut bones = Names::new(alloc);
-    test_list(
-        alloc,
-        value,
-        Member::Pose,
-        4_294_967_295,
-        PoseTest,
-        &mut bones,
-    )
+    test_list(alloc, value, Member::Pose, MAX_INDEX, PoseTest, &mut bones)
 }
 
 fn test_modifiers(alloc: Global, value: &Value) -> Result<(), SceneStop>

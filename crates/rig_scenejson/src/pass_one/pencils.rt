@@ -7,7 +7,8 @@ ghost use Rattle.serde_json.specs.View.{view, items_view};
 ghost use Rattle.rig_scenejson.specs.Tests.{Tests, first};
 ghost use Rattle.rig_scenejson.specs.Value.{item_count};
 ghost use Rattle.rig_scenejson.specs.PassOne.{points_in, strokes_faults, after_strokes, drawing_faults, after_drawing};
-ghost use Rattle.rig_scenejson.specs.PassOne.{after_key, layer_key_faults, bound_faults, layer_faults, after_layer, pencil_faults, after_pencil, no_pencils};
+ghost use Rattle.rig_scenejson.specs.PassOne.{after_key, layer_key_faults, bound_faults, layer_faults, after_layer};
+ghost use Rattle.rig_scenejson.specs.PassOne.{pencil_faults, after_pencil, no_pencils};
 
 use crate::before::{LayersBefore, PencilsBefore};
 use crate::fault::{Cause, SceneStop, stop_for};
@@ -16,7 +17,7 @@ use crate::member::Member;
 use crate::pass_one::integers::AnyInteger;
 use crate::pass_one::members::{test_list, test_name};
 use crate::pass_one::records::{array_len, item_count};
-use crate::test::{ListOf, Test, is_record, optional, required, test_items};
+use crate::test::{ListOf, MAX_INDEX, Test, is_record, optional, required, test_items};
 use crate::value::field;
 use rig_io::List;
 use rig_names::Names;
@@ -27,7 +28,7 @@ use std::alloc::Global;
 /// A stroke: an array of at least one point.
 const STROKE: ListOf<Numbers> = ListOf {
     least: 1,
-    most: 4_294_967_295,
+    most: MAX_INDEX,
     each: VECTOR,
 };
 

@@ -77,14 +77,14 @@ fn required_name(alloc: Global, value: &Value, member: Member) -> Result<Name, S
 }
 
 /// Whether the kind of a record is this word.
-pub(crate) fn is_kind(word: &str, value: &Value) -> bool
+pub fn is_kind(word: &str, value: &Value) -> bool
     ensures { result ≡ is_kind word.now (view value.now) }
 {
     text_at(value, Member::Kind) == word
 }
 
 /// The text of a member: the empty text where it is absent or no text.
-pub(crate) fn text_at(value: &Value, member: Member) -> &str
+pub fn text_at(value: &Value, member: Member) -> &str
     ensures { result.now ≡ text_at member (view value.now) }
 {
     match field(value, member) {

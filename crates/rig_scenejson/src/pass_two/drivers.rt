@@ -6,9 +6,11 @@ ghost use Rattle.serde_json.specs.View.{view};
 ghost use Rattle.rig_scenejson.specs.declared.member.Member.TheVariants as m;
 ghost use Rattle.rig_scenejson.specs.declared.fault.Cause.TheVariants.{WrongIdKind};
 ghost use Rattle.rig_scenejson.specs.Tests.{Tests, first, required, optional, in_member, fault};
-ghost use Rattle.rig_scenejson.specs.Given.{text_at, index_of, rig_at, bones_named, object_named, id_given, space_given, variable_given, driver_kind_given, driver_given};
+ghost use Rattle.rig_scenejson.specs.Given.{text_at, index_of, rig_at, bones_named, object_named, id_given, space_given};
+ghost use Rattle.rig_scenejson.specs.Given.{variable_given, driver_kind_given, driver_given};
 ghost use Rattle.rig_scenejson.specs.PassOne.{after_any};
-ghost use Rattle.rig_scenejson.specs.PassTwo.{known_faults, is_armature_rig, bone_of_faults, id_references, path_references, variable_references, driver_references};
+ghost use Rattle.rig_scenejson.specs.PassTwo.{known_faults, is_armature_rig, bone_of_faults, id_references, path_references};
+ghost use Rattle.rig_scenejson.specs.PassTwo.{variable_references, driver_references};
 
 use crate::fault::{Cause, Hop, SceneStop, moved, stop_for};
 use crate::given::{channel_given, path_given};

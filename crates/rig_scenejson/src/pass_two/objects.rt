@@ -7,9 +7,12 @@ ghost use Rattle.rig_scenejson.specs.declared.member.Member.TheVariants as m;
 ghost use Rattle.rig_scenejson.specs.Tests.{Tests, Reads, first, optional};
 ghost use Rattle.rig_scene.specs.declared.object.Kind.TheVariants.{Armature, Pencil};
 ghost use Rattle.rig_scenejson.specs.declared.fault.Cause.TheVariants.{Count};
-ghost use Rattle.rig_scenejson.specs.Given.{has, text_at, items_at, index_of, bones_at, is_kind, parent_given, effect_given, modifier_given, kind_given, object_given, armature_kind_given, pencil_kind_given};
+ghost use Rattle.rig_scenejson.specs.Given.{has, text_at, items_at, index_of, bones_at, is_kind, parent_given, effect_given};
+ghost use Rattle.rig_scenejson.specs.Given.{modifier_given, kind_given, object_given, armature_kind_given, pencil_kind_given};
 ghost use Rattle.rig_scenejson.specs.PassOne.{after_any, where_true};
-ghost use Rattle.rig_scenejson.specs.PassTwo.{known_faults, bone_of_faults, data_bones, data_references, modifier_references, object_references, after_bones, armature_data_references, pose_list_references, modifier_list_references};
+ghost use Rattle.rig_scenejson.specs.PassTwo.{known_faults, bone_of_faults, data_bones, data_references, modifier_references};
+ghost use Rattle.rig_scenejson.specs.PassTwo.{object_references, after_bones, armature_data_references, pose_list_references};
+ghost use Rattle.rig_scenejson.specs.PassTwo.{modifier_list_references};
 
 use crate::fault::{Cause, Hop, SceneStop, moved, stop_for};
 use crate::given::{channels_given, fixed_at, items_at, name_at, natural_at, truth_at, vector_at};

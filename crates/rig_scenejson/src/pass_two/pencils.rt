@@ -6,9 +6,11 @@ ghost use Rattle.serde_json.specs.View.{view};
 ghost use Rattle.rig_scenejson.specs.declared.member.Member.TheVariants as m;
 ghost use Rattle.rig_scenejson.specs.Tests.{Tests, Reads, first, required, optional};
 ghost use Rattle.rig_scenejson.specs.Value.{text_of};
-ghost use Rattle.rig_scenejson.specs.Given.{has, text_at, bones_named, stroke_given, drawing_given, layer_key_given, bound_given, layer_given, pencil_given};
+ghost use Rattle.rig_scenejson.specs.Given.{has, text_at, bones_named, stroke_given, drawing_given, layer_key_given, bound_given};
+ghost use Rattle.rig_scenejson.specs.Given.{layer_given, pencil_given};
 ghost use Rattle.rig_scenejson.specs.PassOne.{after_any, where_true};
-ghost use Rattle.rig_scenejson.specs.PassTwo.{known_faults, drawing_reference, layer_key_references, layer_references, pencil_references, armature_references_of};
+ghost use Rattle.rig_scenejson.specs.PassTwo.{known_faults, drawing_reference, layer_key_references, layer_references};
+ghost use Rattle.rig_scenejson.specs.PassTwo.{pencil_references, armature_references_of};
 
 use crate::fault::{Cause, Hop, SceneStop, moved, stop_for};
 use crate::given::{

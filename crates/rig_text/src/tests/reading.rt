@@ -1,5 +1,4 @@
 //! A scene with every kind of record, and inputs with one fault each.
-use crate::{Cause, Hop, Member, Place, SceneStop, scene_of};
 use rig_fixed::{Fx, Raw, V3};
 use rig_io::{List, NoMemory};
 use rig_scene::{
@@ -7,6 +6,7 @@ use rig_scene::{
     DriverKind, Effect, Interp, Key, Kind, Layer, LayerKey, Mirror, Modifier, Name, NameStop,
     Object, ObjectId, Parent, Path, PencilData, RestBone, Scene, Space, Stroke, Variable,
 };
+use rig_scenejson::{Cause, Hop, Place, SceneStop, scene_of};
 use serde_json::Value;
 use std::alloc::Global;
 use std::test::Fail;
@@ -37,7 +37,7 @@ const EVERYTHING: &str = r#"{"script": 0, "scene": {
     {"kind": "transform", "object": "Sketch", "channel": "scale", "space": "local"}]}]
 }}"#;
 
-fn named(alloc: Global, text: &str) -> Result<Name, NoMemory> {
+pub(super) fn named(alloc: Global, text: &str) -> Result<Name, NoMemory> {
     match Name::of(alloc, text.as_bytes()) {
         Ok(name) => Ok(name),
         Err(NameStop::NoMemory) | Err(NameStop::BadName) => Err(NoMemory),
@@ -281,20 +281,48 @@ fn read(alloc: Global, text: &str) -> Result<Scene, SceneStop> {
     }
 }
 
-#[test]
-fn every_record_is_read(rt: HostRuntime) -> Result<(), Fail> {
-    let alloc = rt.alloc();
+// The scene of the input with every kind of record.
+fn everything(alloc: Global) -> Result<Scene, Fail> {
     match read(alloc, EVERYTHING) {
-        Ok(scene) => {
-            assert_eq!(rt; scene.actions, expected_actions(alloc)?);
-            assert_eq!(rt; scene.armatures, expected_armatures(alloc)?);
-            assert_eq!(rt; scene.pencils, expected_pencils(alloc)?);
-            assert_eq!(rt; scene.objects, expected_objects(alloc)?);
-            assert_eq!(rt; scene.drivers, expected_drivers(alloc)?);
-            assert_eq!(rt; scene.next, 3);
-        }
-        Err(stop) => assert!(rt; false, "{stop:?}"),
+        Ok(scene) => Ok(scene),
+        Err(SceneStop::NoMemory) => Err(NoMemory.into()),
+        Err(SceneStop::Fault(fault)) => Err(Fail::new(fault.cause.code())),
     }
+}
+
+#[test]
+fn every_action_is_read(rt: HostRuntime) -> Result<(), Fail> {
+    let scene = everything(rt.alloc())?;
+    assert!(rt; scene.actions == expected_actions(rt.alloc())?);
+    Ok(())
+}
+
+#[test]
+fn every_armature_is_read(rt: HostRuntime) -> Result<(), Fail> {
+    let scene = everything(rt.alloc())?;
+    assert!(rt; scene.armatures == expected_armatures(rt.alloc())?);
+    Ok(())
+}
+
+#[test]
+fn every_pencil_is_read(rt: HostRuntime) -> Result<(), Fail> {
+    let scene = everything(rt.alloc())?;
+    assert!(rt; scene.pencils == expected_pencils(rt.alloc())?);
+    Ok(())
+}
+
+#[test]
+fn every_object_is_read(rt: HostRuntime) -> Result<(), Fail> {
+    let scene = everything(rt.alloc())?;
+    assert!(rt; scene.objects == expected_objects(rt.alloc())?);
+    assert_eq!(rt; scene.next, 3);
+    Ok(())
+}
+
+#[test]
+fn every_driver_is_read(rt: HostRuntime) -> Result<(), Fail> {
+    let scene = everything(rt.alloc())?;
+    assert!(rt; scene.drivers == expected_drivers(rt.alloc())?);
     Ok(())
 }
 
@@ -351,22 +379,27 @@ const FAULTS: [Case; 16] = [
         place: "/scene/armatures/0/bones/0/parent",
     },
     Case {
-        text: r#"{"scene": {"version": 1, "armatures": [{"name": "A", "bones": [{"name": "B", "parent": "C"}]}], "objects": [{"name": "O"}]}}"#,
+        text: r#"{"scene": {"version": 1, "armatures": [{"name": "A", "bones": [{"name": "B", "parent": "C"}]}],
+            "objects": [{"name": "O"}]}}"#,
         cause: Cause::Missing,
         place: "/scene/objects/0/kind",
     },
     Case {
-        text: r#"{"scene": {"version": 1, "pencils": [{"name": "P", "drawings": [{}], "layers": [{"name": "L", "keys": [{"frame": 0, "drawing": 0}, {"frame": 1, "drawing": -1}]}]}]}}"#,
+        text: r#"{"scene": {"version": 1, "pencils": [{"name": "P", "drawings": [{}],
+            "layers": [{"name": "L", "keys": [{"frame": 0, "drawing": 0}, {"frame": 1, "drawing": -1}]}]}]}}"#,
         cause: Cause::UnknownRef,
         place: "/scene/pencils/0/layers/0/keys/1/drawing",
     },
     Case {
-        text: r#"{"scene": {"version": 1, "pencils": [{"name": "P", "layers": [{"name": "L", "armature": "O", "bone": "B"}]}], "objects": [{"name": "O", "kind": "empty"}]}}"#,
+        text: r#"{"scene": {"version": 1, "pencils": [{"name": "P", "layers": [{"name": "L", "armature": "O", "bone": "B"}]}],
+            "objects": [{"name": "O", "kind": "empty"}]}}"#,
         cause: Cause::WrongIdKind,
         place: "/scene/pencils/0/layers/0/armature",
     },
     Case {
-        text: r#"{"scene": {"version": 1, "objects": [{"name": "A", "kind": "empty", "parent": "R", "parent_bone": "B"}, {"name": "R", "kind": "armature", "data": "D"}]}}"#,
+        text: r#"{"scene": {"version": 1, "objects": [
+            {"name": "A", "kind": "empty", "parent": "R", "parent_bone": "B"},
+            {"name": "R", "kind": "armature", "data": "D"}]}}"#,
         cause: Cause::UnknownRef,
         place: "/scene/objects/0/parent_bone",
     },
@@ -376,27 +409,37 @@ const FAULTS: [Case; 16] = [
         place: "/scene/objects/0/data",
     },
     Case {
-        text: r#"{"scene": {"version": 1, "armatures": [{"name": "D"}], "objects": [{"name": "R", "kind": "armature", "data": "D", "pose": [{"bone": "B"}]}]}}"#,
+        text: r#"{"scene": {"version": 1, "armatures": [{"name": "D"}],
+            "objects": [{"name": "R", "kind": "armature", "data": "D", "pose": [{"bone": "B"}]}]}}"#,
         cause: Cause::UnknownRef,
         place: "/scene/objects/0/pose/0/bone",
     },
     Case {
-        text: r#"{"scene": {"version": 1, "pencils": [{"name": "P"}], "objects": [{"name": "A", "kind": "pencil", "data": "P", "modifiers": [{"name": "M", "kind": "mirror", "object": "B"}]}]}}"#,
+        text: r#"{"scene": {"version": 1, "pencils": [{"name": "P"}],
+            "objects": [{"name": "A", "kind": "pencil", "data": "P",
+                "modifiers": [{"name": "M", "kind": "mirror", "object": "B"}]}]}}"#,
         cause: Cause::UnknownRef,
         place: "/scene/objects/0/modifiers/0/object",
     },
     Case {
-        text: r#"{"scene": {"version": 1, "objects": [{"name": "A", "kind": "empty"}], "drivers": [{"object": "A", "bone": "B", "channel": "loc.x", "kind": "min", "variables": [{"kind": "property", "pencil": "P", "channel": "loc.x"}]}]}}"#,
+        text: r#"{"scene": {"version": 1, "objects": [{"name": "A", "kind": "empty"}],
+            "drivers": [{"object": "A", "bone": "B", "channel": "loc.x", "kind": "min",
+                "variables": [{"kind": "property", "pencil": "P", "channel": "loc.x"}]}]}}"#,
         cause: Cause::WrongIdKind,
         place: "/scene/drivers/0/channel",
     },
     Case {
-        text: r#"{"scene": {"version": 1, "pencils": [{"name": "P"}], "objects": [{"name": "A", "kind": "empty"}], "drivers": [{"object": "A", "channel": "loc.x", "kind": "max", "variables": [{"kind": "property", "pencil": "P", "layer": "L", "channel": "offset.x"}]}]}}"#,
+        text: r#"{"scene": {"version": 1, "pencils": [{"name": "P"}],
+            "objects": [{"name": "A", "kind": "empty"}],
+            "drivers": [{"object": "A", "channel": "loc.x", "kind": "max",
+                "variables": [{"kind": "property", "pencil": "P", "layer": "L", "channel": "offset.x"}]}]}}"#,
         cause: Cause::UnknownRef,
         place: "/scene/drivers/0/variables/0/layer",
     },
     Case {
-        text: r#"{"scene": {"version": 1, "objects": [{"name": "A", "kind": "empty"}], "drivers": [{"object": "A", "channel": "loc.x", "kind": "average", "variables": [{"kind": "transform", "object": "A", "bone": "B", "channel": "scale"}]}]}}"#,
+        text: r#"{"scene": {"version": 1, "objects": [{"name": "A", "kind": "empty"}],
+            "drivers": [{"object": "A", "channel": "loc.x", "kind": "average",
+                "variables": [{"kind": "transform", "object": "A", "bone": "B", "channel": "scale"}]}]}}"#,
         cause: Cause::WrongIdKind,
         place: "/scene/drivers/0/variables/0/bone",
     },
