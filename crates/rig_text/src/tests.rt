@@ -1,6 +1,7 @@
 //! The lines of faults, byte by byte.
 mod edits;
 mod reading;
+mod scripts;
 
 use crate::fault_text;
 use rig_io::{List, NoMemory};
