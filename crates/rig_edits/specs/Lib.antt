@@ -4,6 +4,7 @@ pub mod DriverByNames
 pub mod Named
 pub mod Conditions
 pub mod Edited
+pub mod Examples
 -- what the contracts of the steps of an edit say
 pub mod Answers
 pub mod Steps

@@ -8,7 +8,8 @@ ghost use Rattle.rig_edits.specs.declared.edit.Flag.TheVariants.{Hidden};
 ghost use Rattle.rig_edits.specs.Answers.{Applies};
 ghost use Rattle.rig_edits.specs.Conditions.{first_cause, when};
 ghost use Rattle.rig_edits.specs.Edited.{natural, put_key, drop_key};
-ghost use Rattle.rig_edits.specs.LayerPlaces.{layer_cause, room_cause, has_key_at, lacks_drawing_at, layer_changed_at, HasLayerAt, IsPlaceOf};
+ghost use Rattle.rig_edits.specs.LayerPlaces.{layer_cause, room_cause, has_key_at, lacks_drawing_at, layer_changed_at};
+ghost use Rattle.rig_edits.specs.LayerPlaces.{HasLayerAt, IsPlaceOf};
 ghost use Rattle.rig_edits.specs.Steps.{Finds};
 
 use crate::cause::{EditCause, EditStop};

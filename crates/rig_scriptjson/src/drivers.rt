@@ -25,6 +25,7 @@ use rig_scenejson::{
 use serde_json::Value;
 use std::alloc::Global;
 
+/// Reads the edit `driver`: a driver of a channel, with 1 to 8 variables.
 pub(crate) fn read_driver(alloc: Global, value: &Value) -> Result<Edit, SceneStop>
     ensures { Reads result (set_driver_given (view value.now)) (first (driver_faults (view value.now))) }
 {
@@ -40,6 +41,7 @@ pub(crate) fn read_driver(alloc: Global, value: &Value) -> Result<Edit, SceneSto
     Ok(Edit::SetDriver { id, path, driver })
 }
 
+/// Reads the edit `undriver`: a channel that is to have no driver.
 pub(crate) fn read_undriver(alloc: Global, value: &Value) -> Result<Edit, SceneStop>
     ensures { Reads result (undriver_given (view value.now)) (first (undriver_faults (view value.now))) }
 {

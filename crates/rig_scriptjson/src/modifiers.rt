@@ -16,6 +16,7 @@ use rig_scenejson::{Member, SceneStop, is_kind};
 use serde_json::Value;
 use std::alloc::Global;
 
+/// Reads the edit `modify`: a new modifier of a pencil object, behind its others.
 pub(crate) fn read_modify(alloc: Global, value: &Value) -> Result<Edit, SceneStop>
     ensures { Reads result (modify_given (view value.now)) (first (modify_faults (view value.now))) }
 {
@@ -75,6 +76,7 @@ fn read_array(alloc: Global, value: &Value) -> Result<NewEffect, SceneStop>
     Ok(NewEffect::Array { count, offset })
 }
 
+/// Reads the edit `unmodify`: a modifier to be removed.
 pub(crate) fn read_unmodify(alloc: Global, value: &Value) -> Result<Edit, SceneStop>
     ensures { Reads result (unmodify_given (view value.now)) (first (unmodify_faults (view value.now))) }
 {

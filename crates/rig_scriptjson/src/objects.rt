@@ -18,6 +18,7 @@ use rig_scenejson::{Member, SceneStop, field, is_kind, text_at};
 use serde_json::Value;
 use std::alloc::Global;
 
+/// Reads the edit `flag`: whether a layer is hidden, or a modifier takes part in a mode.
 pub(crate) fn read_flag(alloc: Global, value: &Value) -> Result<Edit, SceneStop>
     ensures { Reads result (flag_given (view value.now)) (first (flag_faults (view value.now))) }
 {
@@ -69,6 +70,7 @@ pub(crate) fn mode_of(word: &str) -> Mode
     }
 }
 
+/// Reads the edit `parent`: what carries an object, if anything.
 pub(crate) fn read_parent(alloc: Global, value: &Value) -> Result<Edit, SceneStop>
     ensures { Reads result (set_parent_given (view value.now)) (first (parent_faults (view value.now))) }
 {
@@ -91,6 +93,7 @@ fn read_new_parent(alloc: Global, value: &Value) -> Result<Option<NewParent>, Sc
     }
 }
 
+/// Reads the edit `add`: a new object, and the name of its data.
 pub(crate) fn read_add(alloc: Global, value: &Value) -> Result<Edit, SceneStop>
     ensures { Reads result (add_given (view value.now)) (first (add_faults (view value.now))) }
 {
@@ -113,6 +116,7 @@ fn read_new_kind(alloc: Global, value: &Value) -> Result<NewKind, SceneStop>
     }
 }
 
+/// Reads the edit `remove`: an object to be removed.
 pub(crate) fn read_remove(alloc: Global, value: &Value) -> Result<Edit, SceneStop>
     ensures { Reads result (remove_given (view value.now)) (first (required m.Object name_faults (view value.now))) }
 {

@@ -13,6 +13,7 @@ use rig_scenejson::{Member, SceneStop};
 use serde_json::Value;
 use std::alloc::Global;
 
+/// Reads the edit `point`: the place of a point of a drawing.
 pub(crate) fn read_point(alloc: Global, value: &Value) -> Result<Edit, SceneStop>
     ensures { Reads result (point_given (view value.now)) (first (point_faults (view value.now))) }
 {
@@ -30,6 +31,7 @@ pub(crate) fn read_point(alloc: Global, value: &Value) -> Result<Edit, SceneStop
     })
 }
 
+/// Reads the edit `hold`: the drawing that a layer shows from a frame on.
 pub(crate) fn read_hold(alloc: Global, value: &Value) -> Result<Edit, SceneStop>
     ensures { Reads result (hold_given (view value.now)) (first (hold_faults (view value.now))) }
 {
@@ -45,6 +47,7 @@ pub(crate) fn read_hold(alloc: Global, value: &Value) -> Result<Edit, SceneStop>
     })
 }
 
+/// Reads the edit `unhold`: a key of a layer to be deleted.
 pub(crate) fn read_unhold(alloc: Global, value: &Value) -> Result<Edit, SceneStop>
     ensures { Reads result (unhold_given (view value.now)) (first (unhold_faults (view value.now))) }
 {

@@ -30,6 +30,7 @@ pub struct Track {
 #[derive(Debug, Drop, PartialEq, Eq)]
 pub enum Step {
     Edit(Edit),
+    /// A frame, with all values printed where it is full. At most 16 frames of a script are.
     Frame { frame: i32, full: bool },
 }
 

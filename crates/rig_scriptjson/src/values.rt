@@ -14,6 +14,7 @@ use rig_scenejson::{Member, SceneStop, text_at};
 use serde_json::Value;
 use std::alloc::Global;
 
+/// Reads the edit `set`: the number of a channel.
 pub(crate) fn read_set(alloc: Global, value: &Value) -> Result<Edit, SceneStop>
     ensures { Reads result (set_given (view value.now)) (first (set_faults (view value.now))) }
 {
@@ -23,6 +24,7 @@ pub(crate) fn read_set(alloc: Global, value: &Value) -> Result<Edit, SceneStop>
     Ok(Edit::SetValue { id, path, value })
 }
 
+/// Reads the edit `key`: a key of a curve, or a new number at its frame.
 pub(crate) fn read_key(alloc: Global, value: &Value) -> Result<Edit, SceneStop>
     ensures { Reads result (key_given (view value.now)) (first (key_faults (view value.now))) }
 {
@@ -40,6 +42,7 @@ pub(crate) fn read_key(alloc: Global, value: &Value) -> Result<Edit, SceneStop>
     })
 }
 
+// How a key goes on to the next, linear where nothing is said.
 fn interp_given(value: &Value) -> Interp
     ensures { result ≡ interp_given (view value.now) }
 {
@@ -50,6 +53,7 @@ fn interp_given(value: &Value) -> Interp
     }
 }
 
+/// Reads the edit `unkey`: a key of a curve to be deleted.
 pub(crate) fn read_unkey(alloc: Global, value: &Value) -> Result<Edit, SceneStop>
     ensures { Reads result (unkey_given (view value.now)) (first (unkey_faults (view value.now))) }
 {
