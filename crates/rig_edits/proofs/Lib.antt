@@ -5,6 +5,7 @@ pub mod SlotFacts
 pub mod CauseOrder
 pub mod DriverFacts
 pub mod DriverSet
+pub mod KeyCounts
 pub mod KeyPlaceFacts
 pub mod CurvePlaceFacts
 pub mod CurvesKept

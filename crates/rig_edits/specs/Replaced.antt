@@ -75,20 +75,27 @@ slice_get-replaced f d (z ∷ zs) zero x y (suc k) e same = refl
 slice_get-replaced f d (z ∷ zs) (suc i) x y zero e same = refl
 slice_get-replaced f d (z ∷ zs) (suc i) x y (suc k) e same = slice_get-replaced f d zs i x y k e same
 
--- a sum grows by no more than what is replaced
-pub sum_by-replaced : {A : Type 0} (f : A → ℕ) (xs : List A) (i : ℕ) (x y : A) (more : ℕ) → slice_get xs i ≡ Some x → f y ≤ f x + more
-    → sum_by f (slice_set xs i y) ≤ sum_by f xs + more
-sum_by-replaced f [] i x y more e most = omega arith
-sum_by-replaced f (z ∷ zs) zero x y more e most =
+-- a sum grows by what the new element has more, and falls by what it has less
+pub sum_by-set : {A : Type 0} (f : A → ℕ) (xs : List A) (i : ℕ) (x y : A) (less more : ℕ) → slice_get xs i ≡ Some x → f y + less ≡ f x + more
+    → sum_by f (slice_set xs i y) + less ≡ sum_by f xs + more
+sum_by-set f [] i x y less more e change = cc
+sum_by-set f (z ∷ zs) zero x y less more e change =
     let same : f z ≡ f x = ap f (same_Some z x e) in
     let new : sum_by f (y ∷ zs) ≡ f y + sum_by f zs = sum_by-cons f y zs in
     let old : sum_by f (z ∷ zs) ≡ f z + sum_by f zs = sum_by-cons f z zs in
-    omega (arith, same, new, old, most)
-sum_by-replaced f (z ∷ zs) (suc i) x y more e most =
-    let rest : sum_by f (slice_set zs i y) ≤ sum_by f zs + more = sum_by-replaced f zs i x y more e most in
+    omega (arith, same, new, old, change)
+sum_by-set f (z ∷ zs) (suc i) x y less more e change =
+    let rest : sum_by f (slice_set zs i y) + less ≡ sum_by f zs + more = sum_by-set f zs i x y less more e change in
     let new : sum_by f (z ∷ slice_set zs i y) ≡ f z + sum_by f (slice_set zs i y) = sum_by-cons f z (slice_set zs i y) in
     let old : sum_by f (z ∷ zs) ≡ f z + sum_by f zs = sum_by-cons f z zs in
     omega (arith, rest, new, old)
+
+-- a sum grows by no more than what is replaced
+pub sum_by-replaced : {A : Type 0} (f : A → ℕ) (xs : List A) (i : ℕ) (x y : A) (more : ℕ) → slice_get xs i ≡ Some x → f y ≤ f x + more
+    → sum_by f (slice_set xs i y) ≤ sum_by f xs + more
+sum_by-replaced f xs i x y more e most =
+    let set : sum_by f (slice_set xs i y) + f x ≡ sum_by f xs + f y = sum_by-set f xs i x y (f x) (f y) e (omega arith) in
+    omega (arith, set, most)
 
 -- ---- what a change of one element makes
 

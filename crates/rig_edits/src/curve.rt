@@ -1,5 +1,6 @@
 //! Keys of curves: set and deleted.
-ghost use Rattle.std.specs.Prelude.{◌≡◌, ◌≤◌, length, sum_by, OnOk, OnErr, MatchOption};
+ghost use Rattle.std.specs.Prelude.{◌≡◌, ◌≤◌, ◌+◌, IfOk, OnOk, OnErr, MatchOption};
+ghost use Rattle.std.specs.Int.{from_bool};
 ghost use Rattle.std.specs.List.{position};
 ghost use Rattle.rig_scene.specs.declared.limits.TheConstants.{MAX_KEYS};
 ghost use Rattle.rig_scene.specs.Path.{same_path};
@@ -66,7 +67,8 @@ pub(crate) fn set_key(
     ensures { Applies result scene.old scene.new (SetKey action.now path.now frame value interp) }
 {
     let (place, key) = new_key(scene, action, path, frame, value, interp)?;
-    put_into_curve(&mut scene.actions, place, key)?;
+    let more = put_into_curve(&mut scene.actions, place, key)?;
+    scene.key_count += usize::from(more);
     Ok(())
 }
 
@@ -85,7 +87,7 @@ fn new_key(
     let place = curve_place(scene, action, path)?;
     let frame = frame_of(frame)?;
     let value = value_of(value)?;
-    room_for_key(&scene.actions, place, frame)?;
+    room_for_key(&scene.actions, scene.key_count, place, frame)?;
     Ok((
         place,
         Key {
@@ -106,7 +108,8 @@ pub(crate) fn delete_key(
     ensures { Applies result scene.old scene.new (DeleteKey action.now path.now frame) }
 {
     let (place, frame) = old_key(scene, action, path, frame)?;
-    drop_from_curve(&mut scene.actions, place, frame);
+    let less = drop_from_curve(&mut scene.actions, place, frame);
+    scene.key_count -= usize::from(less);
     Ok(())
 }
 
@@ -140,51 +143,42 @@ fn curve_has_key(actions: &List<Action>, place: CurvePlace, frame: i32) -> bool
     )
 }
 
-/// Whether a key may be set at a frame: one that replaces another needs no room.
-fn room_for_key(actions: &List<Action>, place: CurvePlace, frame: i32) -> Result<(), EditCause>
+/// Whether a key may be set at a frame beside so many of all curves: one that replaces another needs no room.
+fn room_for_key(
+    actions: &List<Action>,
+    count: usize,
+    place: CurvePlace,
+    frame: i32,
+) -> Result<(), EditCause>
     requires place { HasCurve actions.now place }
-    requires count { key_count actions.now ≤ MAX_KEYS }
+    requires count { count ≡ key_count actions.now }
+    requires within { count ≤ MAX_KEYS }
     ensures { Finds result (room_cause actions.now place frame) (λ _. Unit {0}) }
 {
     if curve_has_key(actions, place, frame) {
         Ok(())
     } else {
-        room_for(key_count(actions.as_slice()), 1, MAX_KEYS)
+        room_for(count, 1, MAX_KEYS)
     }
 }
 
-/// The number of keys of all curves.
-fn key_count(actions: &[Action]) -> usize
-    requires { key_count actions.now ≤ MAX_KEYS }
-    ensures { result ≡ key_count actions.now }
-{
-    let mut count = 0;
-    for action in actions {
-        count += curve_keys(action.curves.as_slice());
-    }
-    count
-}
-
-fn curve_keys(curves: &[Curve]) -> usize
-    requires { sum_by (λ c. length c.keys) curves.now ≤ MAX_KEYS }
-    ensures { result ≡ sum_by (λ c. length c.keys) curves.now }
-{
-    curves.iter().map(|curve| curve.keys.len()).sum()
-}
-
-fn put_into_curve(actions: &mut List<Action>, place: CurvePlace, key: Key) -> Result<(), NoMemory>
+/// Puts a key into the curve at a place. Answers whether it is one more.
+fn put_into_curve(actions: &mut List<Action>, place: CurvePlace, key: Key) -> Result<bool, NoMemory>
     requires { HasCurve actions.old place }
     ensures ok { OnOk result (actions.new ≡ keys_changed_at (put_key (λ k. k.frame) key) place actions.old) }
+    ensures count { IfOk result (λ more. key_count actions.new ≡ key_count actions.old + from_bool more) }
     ensures err { OnErr result (actions.new ≡ actions.old) }
 {
     let curve = actions.get_mut(place.action).curves.get_mut(place.curve);
     put_key(&mut curve.keys, key)
 }
 
-fn drop_from_curve(actions: &mut List<Action>, place: CurvePlace, frame: i32)
+/// Takes the key at a frame out of the curve at a place, where there is one. Answers whether it is one less.
+fn drop_from_curve(actions: &mut List<Action>, place: CurvePlace, frame: i32) -> bool
     requires { HasCurve actions.old place }
-    ensures { actions.new ≡ keys_changed_at (drop_key (λ k. k.frame) frame) place actions.old }
+    ensures actions { actions.new ≡ keys_changed_at (drop_key (λ k. k.frame) frame) place actions.old }
+    ensures count { key_count actions.new + from_bool result ≡ key_count actions.old }
 {
     let curve = actions.get_mut(place.action).curves.get_mut(place.curve);
-    drop_key(&mut curve.keys, frame);
+    drop_key(&mut curve.keys, frame)
 }

@@ -1,5 +1,6 @@
 //! Keys put into a list of keys by rising frames, and taken out of it. The list is searched by halves.
-ghost use Rattle.std.specs.Prelude.{◌≡◌, IsTrue, OnOk, OnErr};
+ghost use Rattle.std.specs.Prelude.{◌≡◌, ◌+◌, length, IfOk, IsTrue, OnOk, OnErr};
+ghost use Rattle.std.specs.Int.{from_bool};
 ghost use Rattle.std.specs.Ordering.{int_eq};
 ghost use Rattle.std.specs.List.{list_any};
 ghost use Rattle.rig_scene.specs.Keys.{are_frames_rising};
@@ -30,31 +31,40 @@ pub(crate) fn has_key<K: Keyframe>(keys: &List<K>, frame: i32) -> bool
     matches!(key_index(keys, frame), Ok(_))
 }
 
-/// Puts a key in, in the place of the one at its frame where there is one.
+/// Puts a key in, in the place of the one at its frame where there is one. Answers whether it is one more.
 ///
 /// # Errors
 ///
 /// [`NoMemory`]: the keys are unchanged.
-pub(crate) fn put_key<K: Keyframe + Copy>(keys: &mut List<K>, key: K) -> Result<(), NoMemory>
+pub(crate) fn put_key<K: Keyframe + Copy>(keys: &mut List<K>, key: K) -> Result<bool, NoMemory>
     requires { IsTrue (are_frames_rising K.frame keys.old) }
     ensures ok { OnOk result (keys.new ≡ put_key K.frame key keys.old) }
+    ensures count { IfOk result (λ more. length keys.new ≡ length keys.old + from_bool more) }
     ensures err { OnErr result (keys.new ≡ keys.old) }
 {
     match key_index(keys, key.frame()) {
         Ok(index) => {
             keys.set(index, key);
-            Ok(())
+            Ok(false)
         }
-        Err(index) => keys.insert(index, key),
+        Err(index) => {
+            keys.insert(index, key)?;
+            Ok(true)
+        }
     }
 }
 
-/// Takes the key at the frame out, where there is one.
-pub(crate) fn drop_key<K: Keyframe + Copy>(keys: &mut List<K>, frame: i32)
+/// Takes the key at the frame out, where there is one. Answers whether it is one less.
+pub(crate) fn drop_key<K: Keyframe + Copy>(keys: &mut List<K>, frame: i32) -> bool
     requires { IsTrue (are_frames_rising K.frame keys.old) }
-    ensures { keys.new ≡ drop_key K.frame frame keys.old }
+    ensures keys { keys.new ≡ drop_key K.frame frame keys.old }
+    ensures count { length keys.new + from_bool result ≡ length keys.old }
 {
-    if let Ok(index) = key_index(keys, frame) {
-        keys.remove(index);
+    match key_index(keys, frame) {
+        Ok(index) => {
+            keys.remove(index);
+            true
+        }
+        Err(_) => false,
     }
 }

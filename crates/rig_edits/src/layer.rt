@@ -1,5 +1,6 @@
 //! Layers: hidden and shown, and their keys set and deleted.
-ghost use Rattle.std.specs.Prelude.{◌≡◌, ◌≤◌, length, sum_by, OnOk, OnErr};
+ghost use Rattle.std.specs.Prelude.{◌≡◌, ◌≤◌, ◌+◌, IfOk, OnOk, OnErr};
+ghost use Rattle.std.specs.Int.{from_bool};
 ghost use Rattle.rig_scene.specs.declared.limits.TheConstants.{MAX_LAYER_KEYS};
 ghost use Rattle.rig_scene.specs.WellFormed.{layer_key_count};
 ghost use Rattle.rig_edits.specs.declared.cause.EditCause.TheVariants.{UnknownPart};
@@ -66,7 +67,8 @@ pub(crate) fn set_layer_key(
     ensures { Applies result scene.old scene.new (SetLayerKey pencil.now layer.now frame drawing) }
 {
     let (place, key) = new_key(scene, pencil, layer, frame, drawing)?;
-    put_into_layer(&mut scene.pencils, place, key)?;
+    let more = put_into_layer(&mut scene.pencils, place, key)?;
+    scene.layer_key_count += usize::from(more);
     Ok(())
 }
 
@@ -84,7 +86,7 @@ fn new_key(
     let place = layer_place(scene, pencil, layer)?;
     let drawing = drawing_index(&scene.pencils, place, drawing)?;
     let frame = frame_of(frame)?;
-    room_for_key(&scene.pencils, place, frame)?;
+    room_for_key(&scene.pencils, scene.layer_key_count, place, frame)?;
     Ok((place, LayerKey { frame, drawing }))
 }
 
@@ -98,7 +100,8 @@ pub(crate) fn delete_layer_key(
     ensures { Applies result scene.old scene.new (DeleteLayerKey pencil.now layer.now frame) }
 {
     let (place, frame) = old_key(scene, pencil, layer, frame)?;
-    drop_from_layer(&mut scene.pencils, place, frame);
+    let less = drop_from_layer(&mut scene.pencils, place, frame);
+    scene.layer_key_count -= usize::from(less);
     Ok(())
 }
 
@@ -148,36 +151,23 @@ fn layer_has_key(pencils: &List<PencilData>, place: LayerPlace, frame: i32) -> b
     )
 }
 
-/// Whether a key may be set at a frame: one that replaces another needs no room.
-fn room_for_key(pencils: &List<PencilData>, place: LayerPlace, frame: i32) -> Result<(), EditCause>
+/// Whether a key may be set at a frame beside so many of all layers: one that replaces another needs no room.
+fn room_for_key(
+    pencils: &List<PencilData>,
+    count: usize,
+    place: LayerPlace,
+    frame: i32,
+) -> Result<(), EditCause>
     requires place { HasLayerAt pencils.now place }
-    requires count { layer_key_count pencils.now ≤ MAX_LAYER_KEYS }
+    requires count { count ≡ layer_key_count pencils.now }
+    requires within { count ≤ MAX_LAYER_KEYS }
     ensures { Finds result (room_cause pencils.now place frame) (λ _. Unit {0}) }
 {
     if layer_has_key(pencils, place, frame) {
         Ok(())
     } else {
-        room_for(key_count(pencils.as_slice()), 1, MAX_LAYER_KEYS)
+        room_for(count, 1, MAX_LAYER_KEYS)
     }
-}
-
-/// The number of keys of all layers.
-fn key_count(pencils: &[PencilData]) -> usize
-    requires { layer_key_count pencils.now ≤ MAX_LAYER_KEYS }
-    ensures { result ≡ layer_key_count pencils.now }
-{
-    let mut count = 0;
-    for pencil in pencils {
-        count += layer_keys(pencil.layers.as_slice());
-    }
-    count
-}
-
-fn layer_keys(layers: &[Layer]) -> usize
-    requires { sum_by (λ l. length l.keys) layers.now ≤ MAX_LAYER_KEYS }
-    ensures { result ≡ sum_by (λ l. length l.keys) layers.now }
-{
-    layers.iter().map(|layer| layer.keys.len()).sum()
 }
 
 fn hide(pencils: &mut List<PencilData>, place: LayerPlace, on: bool)
@@ -191,24 +181,28 @@ fn hide(pencils: &mut List<PencilData>, place: LayerPlace, on: bool)
         .hidden = on;
 }
 
+/// Puts a key into the layer at a place. Answers whether it is one more.
 fn put_into_layer(
     pencils: &mut List<PencilData>,
     place: LayerPlace,
     key: LayerKey,
-) -> Result<(), NoMemory>
+) -> Result<bool, NoMemory>
     requires { HasLayerAt pencils.old place }
     ensures ok { OnOk result
         (pencils.new ≡ layer_changed_at (λ l. record l { keys = put_key (λ k. k.frame) key l.keys }) place pencils.old) }
+    ensures count { IfOk result (λ more. layer_key_count pencils.new ≡ layer_key_count pencils.old + from_bool more) }
     ensures err { OnErr result (pencils.new ≡ pencils.old) }
 {
     let layer = pencils.get_mut(place.pencil).layers.get_mut(place.layer);
     put_key(&mut layer.keys, key)
 }
 
-fn drop_from_layer(pencils: &mut List<PencilData>, place: LayerPlace, frame: i32)
+/// Takes the key at a frame out of the layer at a place, where there is one. Answers whether it is one less.
+fn drop_from_layer(pencils: &mut List<PencilData>, place: LayerPlace, frame: i32) -> bool
     requires { HasLayerAt pencils.old place }
-    ensures { pencils.new ≡ layer_changed_at (λ l. record l { keys = drop_key (λ k. k.frame) frame l.keys }) place pencils.old }
+    ensures pencils { pencils.new ≡ layer_changed_at (λ l. record l { keys = drop_key (λ k. k.frame) frame l.keys }) place pencils.old }
+    ensures count { layer_key_count pencils.new + from_bool result ≡ layer_key_count pencils.old }
 {
     let layer = pencils.get_mut(place.pencil).layers.get_mut(place.layer);
-    drop_key(&mut layer.keys, frame);
+    drop_key(&mut layer.keys, frame)
 }

@@ -24,7 +24,8 @@
 //! - `specs/Conditions.antt` has the causes, one list of edits a cause, and `specs/Edited.antt` what each edit makes of a scene.
 //!
 //! A name is searched for in its list from the start. Everything else takes time by the record that is changed, apart from the
-//! counts of keys, of bones and of pencil objects, which are taken anew for an edit that adds one.
+//! counts of bones and of pencil objects, which are taken anew for an edit that adds an object. The numbers of keys and of layer
+//! keys are kept by the scene.
 //!
 //! This crate reads no input, keeps no history and evaluates nothing.
 #![tactic(auto)]

@@ -1,4 +1,4 @@
--- The curve of a channel, and the key that it holds at a frame, found by halves.
+-- What an action of a scene is, borrowed, and what is found in a list.
 use Rattle.std.proofs.Common.{◌≡◌, ℕ, zero, suc, ◌≤◌, List, [], ◌∷◌, length, get_or, Bool, true, false, cond, Option, Some, None, IsTrue, MatchOption, option_map, slice_get, is_some, IfSome, nat_lt, refl, sym, arith}
 use Rattle.std.proofs.lemmas.Bool.{and_parts}
 use Rattle.std.proofs.lemmas.Bool.Decides.{nat_tests}
@@ -11,7 +11,7 @@ use Rattle.rig_scene.specs.Scene.{SceneRecord}
 use Rattle.rig_scene.specs.WellFormed.{is_action, is_scene}
 use Rattle.rig_scene.specs.FactsHold.{scene_facts}
 use Rattle.rig_scene.specs.declared.limits.TheConstants.{MAX_OBJECTS}
-use Rattle.rig_play.specs.Scratch.{action_of}
+use Rattle.rig_play.specs.Stands.{object_action}
 
 -- an element of a list in which each passes the test passes it
 pub list_all-slice_get : {A : Type 0} (p : A → Bool) (xs : List A) (k : ℕ) (x : A) → list_all p xs ≡ true → slice_get xs k ≡ Some x → p x ≡ true
@@ -51,7 +51,7 @@ pub few_objects : (scene : SceneRecord) → is_scene scene ≡ true → length s
 few_objects scene holds = (scene_facts scene holds).objects.count
 
 -- an action of a scene, borrowed
-pub got_action : (scene : SceneRecord) (object : Object) (index : ℕ) (r : Option (Bor Action)) → is_scene scene ≡ true → object.action ≡ Some index → option_map (λ a. a.now) r ≡ slice_get scene.actions index → MatchOption r (action_of scene object ≡ None) (λ a. (action_of scene object ≡ Some a.now) × IsTrue (is_action a.now))
+pub got_action : (scene : SceneRecord) (object : Object) (index : ℕ) (r : Option (Bor Action)) → is_scene scene ≡ true → object.action ≡ Some index → option_map (λ a. a.now) r ≡ slice_get scene.actions index → MatchOption r (object_action scene object ≡ None) (λ a. (object_action scene object ≡ Some a.now) × IsTrue (is_action a.now))
 got_action scene object index None holds has is = rw has (sym is)
 got_action scene object index (Some a) holds has is =
     (rw has (sym is), list_all-slice_get is_action scene.actions index a.now (scene_actions scene holds) (sym is))

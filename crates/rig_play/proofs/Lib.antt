@@ -1,17 +1,15 @@
 pub mod Sinks
-pub mod Ends
-pub mod LinesAfter
-pub mod AfterSteps
 pub mod Held
+pub mod PlainScene
+pub mod PlainOperations
 pub mod Passes
-pub mod Named
-pub mod Vectors
-pub mod EachItem
-pub mod Texts
-pub mod Single
-pub mod Once
-pub mod Rising
-pub mod Few
-pub mod Plain
-pub mod MadeScene
-pub mod MadeInput
+pub mod Steps
+pub mod PlainWorlds
+pub mod Playable
+pub mod Ends
+mod Values
+mod OptionReads
+mod Options
+mod Lines
+pub mod Contents
+pub mod Replies

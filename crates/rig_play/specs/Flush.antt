@@ -1,49 +1,52 @@
 -- Which operations run at a frame step.
-use Rattle.std.specs.Prelude.{ℕ, ◌+◌, ℤ, ◌&&◌, ◌||◌, List, [], ◌∷◌, ◌++◌, length, filter, slice_get, Bool, true, false, not, Option, Some, None, is_some, option_and_then}
+use Rattle.std.specs.Prelude.{ℤ, ◌&&◌, ◌||◌, List, filter, position, slice_get, Bool, true, false, not, Option, Some, None, unwrap_or}
+use Rattle.std.specs.Option.{option_map_or}
 use Rattle.std.specs.Ordering.{int_eq}
+use Rattle.rig_scene.specs.declared.id.AnimId.TheVariants as anim
+use Rattle.rig_scene.specs.declared.id.ObjectId.{ObjectId}
+use Rattle.rig_scene.specs.declared.operation.OpId.{OpId}
+use Rattle.rig_scene.specs.declared.operation.OpId.TheVariants.{Time, Animation, Local, World}
+use Rattle.rig_scene.specs.Drivers.{has_action}
+use Rattle.rig_scene.specs.Id.{same_object}
+use Rattle.rig_scene.specs.Operations.{operations}
 use Rattle.rig_scene.specs.Scene.{SceneRecord}
-use Rattle.rig_play.specs.declared.script.Step.{Step}
-use Rattle.rig_play.specs.declared.script.Step.TheVariants.{Frame, SetLocation}
-use Rattle.rig_play.specs.Script.{last_frame, was_set}
-use Rattle.rig_play.specs.Edited.{after}
-use Rattle.rig_play.specs.Operations.{Operation, Time, Animation, Local, World, operations}
-
--- whether the object at an index has an action
-abbrev pub is_animated : SceneRecord → ℕ → Bool
-is_animated scene index = is_some (option_and_then (λ o. o.action) (slice_get scene.objects index))
+use Rattle.rig_play.specs.State.{PlayState}
 
 -- whether the time leads to an operation: itself, each animation, and the transforms of objects with an action
-abbrev pub follows_time : SceneRecord → Operation → Bool
+abbrev pub follows_time : SceneRecord → OpId → Bool
 follows_time scene Time = true
-follows_time scene (Animation index) = true
-follows_time scene (Local index) = is_animated scene index
-follows_time scene (World index) = is_animated scene index
+follows_time scene (Animation id) = true
+follows_time scene (Local o) = has_action scene (anim.Object o)
+follows_time scene (World o) = has_action scene (anim.Object o)
+follows_time scene operation = false
+
+-- whether the object of an id was set since the last frame step
+abbrev pub was_set : PlayState → ObjectId → Bool
+was_set state id =
+    option_map_or (λ index. unwrap_or (slice_get state.set index) false) (position (λ o. same_object o.id id) state.scene.objects) false
 
 -- whether an edit since the last frame step leads to an operation: the transforms of the objects that were set
-abbrev pub follows_edit : List Step → Operation → Bool
-follows_edit steps Time = false
-follows_edit steps (Animation index) = false
-follows_edit steps (Local index) = was_set steps index
-follows_edit steps (World index) = was_set steps index
+abbrev pub follows_edit : PlayState → OpId → Bool
+follows_edit state (Local o) = was_set state o
+follows_edit state (World o) = was_set state o
+follows_edit state operation = false
 
--- Whether an operation runs at a frame step, after these steps: at the first frame step each does; at a later
--- one those that an edit since the frame step before leads to, and where the frame is another one, those
--- that the time leads to.
-abbrev pub is_flushed : Option ℤ → SceneRecord → List Step → ℤ → Operation → Bool
-is_flushed None scene steps frame operation = true
-is_flushed (Some last) scene steps frame operation =
-    (not (int_eq last frame) && follows_time scene operation) || follows_edit steps operation
+-- whether a frame is another one than the last, as the first one is
+abbrev pub is_moved : Option ℤ → ℤ → Bool
+is_moved None frame = true
+is_moved (Some last) frame = not (int_eq last frame)
 
--- the operations that run at a frame step after these steps from an opening scene
-abbrev pub flushed : SceneRecord → List Step → ℤ → List Operation
-flushed base steps frame = filter (is_flushed (last_frame steps) (after base steps) steps frame) (operations (after base steps))
+-- whether a frame is the first one
+abbrev pub is_first : Option ℤ → Bool
+is_first None = true
+is_first (Some last) = false
 
--- how many operations run at a step after these steps
-abbrev pub ran_at : SceneRecord → List Step → Step → ℕ
-ran_at base steps (Frame frame) = length (flushed base steps frame)
-ran_at base steps (SetLocation object axis value) = 0
+-- Whether an operation runs at a frame step: at the first one each does; at a later one those that an edit since the
+-- frame step before leads to, and where the frame is another one, those that the time leads to.
+abbrev pub is_flushed : PlayState → ℤ → OpId → Bool
+is_flushed state frame operation =
+    is_first state.last || (is_moved state.last frame && follows_time state.scene operation) || follows_edit state operation
 
--- how many operations run at the steps to come, after these steps
-abbrev pub ran_from : SceneRecord → List Step → List Step → ℕ
-ran_from base steps [] = 0
-ran_from base steps (step ∷ rest) = ran_at base steps step + ran_from base (steps ++ step ∷ []) rest
+-- the operations that run at a frame step, in order
+abbrev pub flushed : PlayState → ℤ → List OpId
+flushed state frame = filter (is_flushed state frame) (operations state.scene)

@@ -1,36 +1,55 @@
-//! The plain incremental engine: keeps where each object stood, and evaluates again just what is flushed.
-ghost use Rattle.std.specs.Prelude.{◌≡◌, ◌<◌, ℕ, ◌+◌, ◌*◌, ◌≤◌, length, List, [], map, IfOk, false, ◌&&◌, is_some, if◌then◌else◌};
-ghost use Rattle.rig_scene.specs.declared.limits.TheConstants.{MAX_OBJECTS};
+//! The plain incremental engine: owns a plain scene, edits it, and evaluates again just what is flushed.
+ghost use Rattle.std.specs.Prelude.{◌≡◌, ◌<◌, ◌≤◌, ℕ, ℤ, ◌+◌, ◌*◌, length, map, List, [], IsTrue, IfOk, OnOk, OnErr, Some, None, false, ◌&&◌, is_some, position, sum_by, if◌then◌else◌};
+ghost use Rattle.std.specs.Option.{ForSome};
 ghost use Rattle.rig_io.specs.Faults.{count_end};
-ghost use Rattle.rig_scene.specs.Scene.{SceneRecord};
-ghost use Rattle.rig_play.specs.declared.script.Step.{Step};
-ghost use Rattle.rig_play.specs.declared.script.Step.TheVariants.{Frame, SetLocation};
-ghost use Rattle.rig_play.specs.Flush.{flushed};
-ghost use Rattle.rig_play.specs.Follows.{Follows, FollowsOn, IsFor, is_first, is_moved, is_reached};
-ghost use Rattle.rig_play.specs.Follows.{object_ran, objects_ran, stand, stand_after, locations_after};
-ghost use Rattle.rig_play.specs.Operations.{operations, object_operations};
+ghost use Rattle.rig_scene.specs.declared.limits.TheConstants.{MAX_OBJECTS};
+ghost use Rattle.rig_scene.specs.declared.modifier.Mode.{Mode};
+ghost use Rattle.rig_scene.specs.Cut.{cuts};
+ghost use Rattle.rig_scene.specs.Operations.{operations};
+ghost use Rattle.rig_scene.specs.Text.{same_text};
+ghost use Rattle.rig_edits.specs.Conditions.{first_cause};
+ghost use Rattle.rig_edits.specs.declared.change.TheConstants.{MAX_NEXT};
+ghost use Rattle.rig_play.specs.Flush.{flushed, is_first, is_moved};
+ghost use Rattle.rig_play.specs.Output.{worlds_at};
+ghost use Rattle.rig_play.specs.Plain.{is_plain_scene};
+ghost use Rattle.rig_play.specs.PlainScript.{is_plain_edit};
+ghost use Rattle.rig_play.specs.Stands.{all_stand, is_reached, object_count, object_ran, objects_ran, plain_world, stand};
+ghost use Rattle.rig_play.specs.State.{after_edit, after_frame, index_set, object_index, opening, with_mark};
 
-use crate::curve::location_at;
-use rig_fixed::{Fx, V3};
-use rig_io::{NoMemory, Tally};
-use rig_scene::{Axis, Object, Scene};
+use crate::animation::world_at;
+use rig_edits::{Edit, EditCause, EditStop, IdName, apply};
+use rig_fixed::Xform;
+use rig_io::{List, NoMemory, Tally};
+use rig_scene::{Name, Object, Scene};
 use std::alloc::Global;
+use std::marker::Model;
 
-/// The plain engine: where each object of a scene stood at the last frame step, and what was set since.
-#[derive(Debug, Drop)]
+/// A plain scene with where each of its objects stood at the last frame step, and which were set since. Contracts see it as the
+/// state of a play.
+#[derive(Drop)]
 pub(crate) struct Engine {
-    // The original location of each object, after the edits so far.
-    originals: Vec<V3>,
-    // Where each object stood at the last frame step.
-    kept: Vec<V3>,
+    scene: Scene,
     // Whether each object was set since the last frame step.
-    marks: Vec<bool>,
+    marks: List<bool>,
+    // Where each object stood at the last frame step.
+    worlds: List<Xform>,
     // The frame of the last frame step.
     last: Option<i32>,
 }
 
+impl Model for Engine {
+    ghost use Rattle.rig_play.specs.State.{PlayState};
+    ghost use Rattle.rig_play.specs.Stands.{Stands};
+
+    ghost Value = { PlayState };
+
+    ghost view = { λ e. record { scene = e.scene; set = e.marks; last = e.last } };
+
+    ghost invariant = { λ e. Stands e.scene e.marks e.worlds e.last };
+}
+
 /// What a pass over the objects evaluates.
-#[derive(Clone, Copy, Debug)]
+#[derive(Clone, Copy)]
 struct Pass {
     frame: i32,
     // Whether it is the first pass, which evaluates everything.
@@ -40,96 +59,136 @@ struct Pass {
 }
 
 impl Engine {
-    /// The engine of a scene before any step.
-    pub(crate) fn open(alloc: Global, scene: &Scene) -> Result<Engine, NoMemory>
-        ensures follows { IfOk result (Follows scene.now []) }
-        ensures sized { IfOk result (IsFor (length scene.now.objects)) }
+    /// The engine of a plain scene before any step.
+    pub(crate) fn open(alloc: Global, scene: Scene) -> Result<Engine, NoMemory>
+        requires plain { IsTrue (is_plain_scene scene) }
+        requires next { scene.next < MAX_NEXT }
+        ensures { IfOk result (λ engine. engine ≡ opening scene) }
     {
-        let mut originals = Vec::new(alloc);
-        let mut marks = Vec::new(alloc);
-        for object in scene.objects.as_slice() {
-            originals.push(object.own.loc)?;
+        let mut marks = List::new(alloc);
+        let mut worlds = List::new(alloc);
+        for _object in scene.objects.as_slice() {
             marks.push(false)?;
+            worlds.push(Xform::identity())?;
         }
-        let kept = originals.clone()?;
         Ok(Engine {
-            originals,
-            kept,
+            scene,
             marks,
+            worlds,
             last: None,
         })
     }
 
-    /// Takes an edit: sets one number of the original location of the object at an index.
-    pub(crate) fn set(&mut self, object: u32, axis: Axis, value: Fx)
-        requires originals { object < length self.old.originals.items }
-        requires marks { object < length self.old.marks.items }
-        ensures follows { (base : SceneRecord) → FollowsOn base (SetLocation object axis value) self.old self.new }
-        ensures sized { (count : ℕ) → IsFor count self.old → IsFor count self.new }
+    /// The scene after the edits so far.
+    pub(crate) fn scene(&self) -> &Scene
+        ensures { result.now ≡ self.now.scene }
     {
-        let index = object as usize;
-        axis.set_coordinate(&mut self.originals[index], value);
-        self.marks[index] = true;
+        &self.scene
     }
 
-    /// Evaluates the scene at a frame: runs the flushed operations, each with one tick, and answers how many
-    /// ran. It takes no memory.
-    pub(crate) fn evaluate<Y: Tally>(&mut self, scene: &Scene, frame: i32, tally: &mut Y) -> u32
-        requires sized { IsFor (length scene.now.objects) self.old }
-        requires room { Y.count tally.old + 1 + 3 * length scene.now.objects ≤ count_end }
-        ensures follows { FollowsOn scene.now (Frame frame) self.old self.new }
-        ensures values { (steps : List Step) → Follows scene.now steps self.old →
-            self.new.kept.items ≡ locations_after scene.now steps frame }
-        ensures ran { (steps : List Step) → Follows scene.now steps self.old → result ≡ length (flushed scene.now steps frame) }
+    /// Takes an edit, and answers the first cause where it is refused.
+    pub(crate) fn edit(&mut self, alloc: Global, edit: &Edit) -> Result<Option<EditCause>, NoMemory>
+        requires { IsTrue (is_plain_edit edit.now) }
+        ensures cause { IfOk result (λ cause. cause ≡ first_cause self.old.scene edit.now) }
+        ensures state { OnOk result (self.new ≡ after_edit self.old edit.now) }
+        ensures unchanged { OnErr result (self.new ≡ self.old) }
+    {
+        let index = index_of(&self.scene, edit);
+        match apply(alloc, &mut self.scene, edit) {
+            Ok(()) => {
+                mark(&mut self.marks, index);
+                Ok(None)
+            }
+            Err(EditStop::Refused(cause)) => Ok(Some(cause)),
+            Err(EditStop::NoMemory) => Err(NoMemory),
+        }
+    }
+
+    /// Evaluates a frame: runs the flushed operations, each with one tick, and answers how many ran. It takes no memory.
+    pub(crate) fn evaluate<Y: Tally>(&mut self, frame: i32, tally: &mut Y) -> u32
+        requires { Y.count tally.old + 1 + 3 * MAX_OBJECTS ≤ count_end }
+        ensures state { self.new ≡ after_frame self.old frame }
+        ensures ran { result ≡ length (flushed self.old frame) }
         ensures ticks { Y.count tally.new ≡ Y.count tally.old + result }
-        ensures within { result ≤ 1 + 3 * length scene.now.objects }
-        ensures sized { IsFor (length scene.now.objects) self.new }
+        ensures within { result ≤ 1 + 3 * MAX_OBJECTS }
     {
         let pass = Pass::of(self.last, frame);
         let time = run_time(pass, tally);
-        let objects = self.run_objects(scene, pass, tally);
+        let objects = run_objects(&self.scene, pass, &mut self.marks, &mut self.worlds, tally);
         self.last = Some(frame);
         time + objects
     }
 
-    // Runs what is flushed of each object, and takes the marks off. Answers how many operations ran.
-    fn run_objects<Y: Tally>(&mut self, scene: &Scene, pass: Pass, tally: &mut Y) -> u32
-        requires sized { IsFor (length scene.now.objects) self.old }
-        requires room { Y.count tally.old + 3 * length scene.now.objects ≤ count_end }
-        ensures ran { result ≡ objects_ran pass.first pass.moved scene.now.objects self.old.marks.items }
-        ensures kept { self.new.kept.items ≡ stand_after scene.now pass self.old }
-        ensures marks { self.new.marks.items ≡ map (λ _. false) self.old.marks.items }
-        ensures originals { self.new.originals ≡ self.old.originals }
-        ensures last { self.new.last ≡ self.old.last }
-        ensures ticks { Y.count tally.new ≡ Y.count tally.old + result }
-        ensures within { result ≤ 3 * length scene.now.objects }
-        ensures few { result ≤ 3 * MAX_OBJECTS }
-        ensures sized { IsFor (length scene.now.objects) self.new }
+    /// Where each object stands in the world at the last frame, where no edit came since: what is evaluated from scratch. No read of
+    /// a plain scene is cut.
+    pub(crate) fn worlds(&self) -> &[Xform]
+        ensures worlds { (mode : Mode) (frame : ℤ) → self.now.last ≡ Some frame → self.now.set ≡ map (λ _. false) self.now.set →
+            result.now ≡ worlds_at self.now.scene mode frame }
+        ensures count { length result.now ≡ length self.now.scene.objects }
+        ensures uncut { cuts self.now.scene ≡ [] }
     {
-        let mut ran = 0;
-        for index in 0..scene.objects.len() {
-            let object = scene.objects.get(index);
-            let original = self.originals[index];
-            let marked = self.marks[index];
-            ran += run_object(
-                scene,
-                object,
-                original,
-                marked,
-                pass,
-                &mut self.kept[index],
-                tally,
-            );
-            self.marks[index] = false;
-        }
-        ran
+        self.worlds.as_slice()
     }
 
-    /// Where each object stands at the last frame.
-    pub(crate) fn locations(&self) -> &[V3]
-        ensures { result.now ≡ self.now.kept.items }
+    /// The number of operations of the scene: 1, and 2 or 3 for each of its objects, of which there are at most 1,024.
+    pub(crate) fn operation_count(&self) -> u32
+        ensures { result ≡ length (operations self.now.scene) }
     {
-        self.kept.as_slice()
+        count_operations(&self.scene)
+    }
+}
+
+fn count_operations(scene: &Scene) -> u32
+    ensures { result ≡ 1 + sum_by object_count scene.now.objects }
+{
+    let mut count = 1;
+    for object in scene.objects.as_slice() {
+        count += object_count(object);
+    }
+    count
+}
+
+fn object_count(object: &Object) -> u32
+    ensures count { result ≡ object_count object.now }
+    ensures few { result ≤ 3 }
+{
+    if object.action.is_some() { 3 } else { 2 }
+}
+
+// The index of the object of which an edit sets a number.
+fn index_of(scene: &Scene, edit: &Edit) -> Option<usize>
+    ensures index { result ≡ index_set scene.now edit.now }
+    ensures within { ForSome result (λ index. index < length scene.now.objects) }
+{
+    match edit {
+        Edit::SetValue { id, .. } => object_index(scene, id),
+        _ => None,
+    }
+}
+
+fn object_index(scene: &Scene, id: &IdName) -> Option<usize>
+    ensures index { result ≡ object_index scene.now id.now }
+    ensures within { ForSome result (λ index. index < length scene.now.objects) }
+{
+    match id {
+        IdName::Object(name) => index_named(scene.objects.as_slice(), name),
+        IdName::Pencil(_) => None,
+    }
+}
+
+fn index_named(objects: &[Object], name: &Name) -> Option<usize>
+    ensures index { result ≡ position (λ o. same_text o.name name.now) objects.now }
+    ensures within { ForSome result (λ index. index < length objects.now) }
+{
+    objects.iter().position(|object| object.name == *name)
+}
+
+fn mark(marks: &mut List<bool>, index: Option<usize>)
+    requires { ForSome index (λ i. i < length marks.old) }
+    ensures { marks.new ≡ with_mark index marks.old }
+{
+    if let Some(index) = index {
+        marks.set(index, true);
     }
 }
 
@@ -153,11 +212,39 @@ impl Pass {
     }
 
     // Whether the transforms of an object are evaluated.
-    fn reaches(self, object: &Object, marked: bool) -> bool
-        ensures { result ≡ is_reached self.first self.moved object.now marked }
+    fn reaches(self, object: &Object, was_set: bool) -> bool
+        ensures { result ≡ is_reached self.first self.moved object.now was_set }
     {
-        self.first || (self.moved && object.action.is_some()) || marked
+        self.first || (self.moved && object.action.is_some()) || was_set
     }
+}
+
+// Runs what is flushed of each object, and takes the marks off. Answers how many operations ran.
+fn run_objects<Y: Tally>(
+    scene: &Scene,
+    pass: Pass,
+    marks: &mut List<bool>,
+    worlds: &mut List<Xform>,
+    tally: &mut Y,
+) -> u32
+    requires marks { length marks.old ≡ length scene.now.objects }
+    requires worlds { length worlds.old ≡ length scene.now.objects }
+    requires room { Y.count tally.old + 3 * length scene.now.objects ≤ count_end }
+    ensures ran { result ≡ objects_ran pass.first pass.moved scene.now.objects marks.old }
+    ensures worlds { worlds.new ≡ all_stand scene.now pass.first pass.moved pass.frame scene.now.objects marks.old worlds.old }
+    ensures marks { marks.new ≡ map (λ _. false) marks.old }
+    ensures ticks { Y.count tally.new ≡ Y.count tally.old + result }
+    ensures within { result ≤ 3 * length scene.now.objects }
+    ensures few { result ≤ 3 * MAX_OBJECTS }
+{
+    let mut ran = 0;
+    for index in 0..scene.objects.len() {
+        let object = scene.objects.get(index);
+        let was_set = *marks.get(index);
+        ran += run_object(scene, object, was_set, pass, worlds.get_mut(index), tally);
+        marks.set(index, false);
+    }
+    ran
 }
 
 // Runs the time, where the frame moved. Answers how many operations ran.
@@ -178,24 +265,23 @@ fn run_time<Y: Tally>(pass: Pass, tally: &mut Y) -> u32
 fn run_object<Y: Tally>(
     scene: &Scene,
     object: &Object,
-    original: V3,
-    marked: bool,
+    was_set: bool,
     pass: Pass,
-    stood: &mut V3,
+    world: &mut Xform,
     tally: &mut Y,
 ) -> u32
     requires { Y.count tally.old + 3 ≤ count_end }
-    ensures ran { result ≡ object_ran pass.first pass.moved object.now marked }
-    ensures stands { stood.new ≡ stand scene.now pass.first pass.moved pass.frame object.now original marked stood.old }
+    ensures ran { result ≡ object_ran pass.first pass.moved object.now was_set }
+    ensures stands { world.new ≡ stand scene.now pass.first pass.moved pass.frame object.now was_set world.old }
     ensures ticks { Y.count tally.new ≡ Y.count tally.old + result }
 {
     let animation = run_animation(object, pass, tally);
-    if !pass.reaches(object, marked) {
+    if !pass.reaches(object, was_set) {
         return animation;
     }
-    let local = location_at(scene, object, original, pass.frame);
+    // Local, and then World, which is equal to it: no object has a parent.
     tally.tick();
-    *stood = local;
+    *world = world_at(scene, object, pass.frame);
     tally.tick();
     animation + 2
 }
@@ -212,23 +298,4 @@ fn run_animation<Y: Tally>(object: &Object, pass: Pass, tally: &mut Y) -> u32
     } else {
         0
     }
-}
-
-/// The number of operations of a scene: 1, and 2 or 3 for each of its objects, of which there are at most 1,024.
-pub(crate) fn operation_count(scene: &Scene) -> u32
-    ensures count { result ≡ length (operations scene.now) }
-    ensures objects { length scene.now.objects ≤ MAX_OBJECTS }
-{
-    let mut count = 1;
-    for object in scene.objects.as_slice() {
-        count += object_operation_count(object);
-    }
-    count
-}
-
-fn object_operation_count(object: &Object) -> u32
-    ensures operations { (index : ℕ) → result ≡ length (object_operations index object.now) }
-    ensures few { result ≤ 3 }
-{
-    if object.action.is_some() { 3 } else { 2 }
 }

@@ -27,33 +27,27 @@
 //!
 //! # Rules
 //!
-//! - An input is read whole, up to its limit of bytes, and tested whole, before anything is played. All of its text is
-//!   made before the first byte is written: want of memory leaves the sink as it was.
+//! - The words are read by clap. Of the four commands `eval` is built.
+//! - An input is read whole, up to its limit of bytes, and tested whole, before anything is played: that it is JSON, its scene, and
+//!   then its script. The first fault is printed. All text is made before the first byte is written: want of memory leaves the
+//!   sink as it was.
 //! - Each way to end has a [`Status`]. A failed read or write is never passed over: it ends the run, by its own status.
 //! - Each printed frame is the scene's state from scratch after the edits before it. What is counted is what the flush
 //!   reaches: an edit leads to the operations of its object, a new frame to Time and those of objects with an action.
-//! - A scene has empties and actions of constant keys today, and a script one track of sets and frames. Other inputs end
-//!   with [`Status::Unbuilt`].
+//! - A refused edit changes nothing, and its reply is printed.
+//! - The plain engine plays empty objects that nothing carries, turns or scales, with constant keys on their locations, and one track of
+//!   frames that aren't full and of sets of a location. Other inputs without a fault end with [`Status::Unbuilt`], until the
+//!   graph takes the engine's place.
 #![tactic(auto)]
 
-mod actions;
-mod conditions;
-mod curve;
+mod animation;
+mod command;
 mod engine;
-mod form;
-mod members;
-mod names;
-mod objects;
+mod input;
+mod plain;
 mod play;
 mod program;
-mod scenes;
-mod script;
 mod status;
-#[cfg(test)]
-mod tests;
-mod text;
-mod tracks;
-mod words;
 
 pub use program::{run, run_plain};
 pub use status::Status;

@@ -1,31 +1,41 @@
 //! A whole run: words, reading, playing and writing, each way to end with its status.
-ghost use Rattle.std.specs.Prelude.{◌≡◌, ◌≢◌, ◌+◌, ◌≤◌, ◌⊎◌, drop, Some, None, IsTrue, OnOk, OnErr, sum_by, true, false};
-ghost use Rattle.std.specs.List.{flat_map};
+ghost use Rattle.std.specs.Prelude.{◌≡◌, ◌≢◌, ◌+◌, ◌^◌, ◌≤◌, ◌⊎◌, drop, OnErr, IsTrue, IfOk, OnOk, sum_by, true, false};
 ghost use Rattle.rig_io.specs.Faults.{rose};
 ghost use Rattle.rig_io.specs.Bytes.{GaveAtMost, GaveOneMore, Appended, AppendedPrefix};
-ghost use Rattle.rig_play.specs.Played.{InputRecord};
-ghost use Rattle.rig_play.specs.Form.{input_of};
-ghost use Rattle.rig_play.specs.Words.{is_eval};
-ghost use Rattle.rig_play.specs.Run.{AreTallies, Plays, ReadNoInput, WrotePrefix, EndsAs, CountsAtMost, usage_line, unbuilt_line};
-ghost use Rattle.rig_play.specs.Run.{text_of, text_for, ran_in, ran_for};
+ghost use Rattle.rig_play.specs.Input.{Contents, contents_of};
+ghost use Rattle.rig_play.specs.Made.{Answers, Stops, whole_text};
+ghost use Rattle.rig_play.specs.Run.{AreTallies, Plays, Refuses, WrotePrefix, EndsAs, CountsAtMost, is_eval, is_refusal};
+ghost use Rattle.rig_play.specs.Run.{usage_line, too_long_line, not_json_line, unbuilt_line, status_for, text_for, ran_for, is_eval_command};
 
-use crate::form::{Unread, input_of};
+use crate::command::{Command, CommandStop, command_line};
+use crate::input::{InputStop, input_of};
 use crate::play::play;
 use crate::status::Status;
-use crate::words::is_eval;
-use rig_io::{ReadStop, Sink, Source, Tally, WriteFault, read_all, write_all};
+use rig_io::{NoMemory, ReadStop, Sink, Source, Tally, WriteFault, read_all, write_all};
 use rig_scene::limits::MAX_INPUT_BYTES;
+use rig_text::fault_text;
 use std::alloc::Global;
 
 const USAGE_LINE: &[u8] =
     b"usage: rigplay <check|eval|play|rehearse> [--workers N] [--trace] [--size N]\n";
 
+const TOO_LONG_LINE: &[u8] = b"fault TooLong\n";
+
+const NOT_JSON_LINE: &[u8] = b"fault NotJson\n";
+
 const UNBUILT_LINE: &[u8] = b"fault Unbuilt\n";
+
+/// What a run writes for an input, and how it ends where all of it is written.
+#[derive(Drop)]
+pub(crate) struct Answer {
+    status: Status,
+    texts: Vec<Vec<u8>>,
+}
 
 // Writes texts one after another.
 fn write_each<K: Sink>(sink: &mut K, texts: &[Vec<u8>]) -> Result<(), WriteFault>
-    ensures ok { OnOk result (Appended (K.written sink.old) (K.written sink.new) (flat_map (λ t. t.items) texts.now)) }
-    ensures err { OnErr result (AppendedPrefix (K.written sink.old) (K.written sink.new) (flat_map (λ t. t.items) texts.now)) }
+    ensures ok { OnOk result (Appended (K.written sink.old) (K.written sink.new) (whole_text texts.now)) }
+    ensures err { OnErr result (AppendedPrefix (K.written sink.old) (K.written sink.new) (whole_text texts.now)) }
     ensures cause { OnErr result (IsTrue (rose (K.faults sink.old) (K.faults sink.new))) }
     ensures no_fault { OnOk result (K.faults sink.new ≡ K.faults sink.old) }
 {
@@ -38,69 +48,144 @@ fn write_each<K: Sink>(sink: &mut K, texts: &[Vec<u8>]) -> Result<(), WriteFault
     Ok(())
 }
 
-fn write_usage<K: Sink>(sink: &mut K) -> Result<(), WriteFault>
-    ensures ok { OnOk result (Appended (K.written sink.old) (K.written sink.new) usage_line) }
-    ensures err { OnErr result (AppendedPrefix (K.written sink.old) (K.written sink.new) usage_line) }
-    ensures cause { OnErr result (IsTrue (rose (K.faults sink.old) (K.faults sink.new))) }
-    ensures no_fault { OnOk result (K.faults sink.new ≡ K.faults sink.old) }
+// Ends with a status and its line.
+fn tell<K: Sink>(sink: &mut K, line: &[u8], status: Status) -> Status
+    requires { status ≢ Status.WriteFault }
+    ensures told { result ≢ Status.WriteFault → (result ≡ status)
+        × Appended (K.written sink.old) (K.written sink.new) line.now × (K.faults sink.new ≡ K.faults sink.old) }
+    ensures fault { result ≡ Status.WriteFault → IsTrue (rose (K.faults sink.old) (K.faults sink.new))
+        × AppendedPrefix (K.written sink.old) (K.written sink.new) line.now }
 {
-    write_all(sink, USAGE_LINE)
+    match write_all(sink, line) {
+        Ok(()) => status,
+        Err(_) => Status::WriteFault,
+    }
 }
 
-fn write_unbuilt<K: Sink>(sink: &mut K) -> Result<(), WriteFault>
-    ensures ok { OnOk result (Appended (K.written sink.old) (K.written sink.new) unbuilt_line) }
-    ensures err { OnErr result (AppendedPrefix (K.written sink.old) (K.written sink.new) unbuilt_line) }
-    ensures cause { OnErr result (IsTrue (rose (K.faults sink.old) (K.faults sink.new))) }
-    ensures no_fault { OnOk result (K.faults sink.new ≡ K.faults sink.old) }
+// Ends with an answer, whose texts it writes.
+fn finish<K: Sink>(sink: &mut K, answer: &Answer) -> Status
+    requires { answer.now.status ≢ Status.WriteFault }
+    ensures finished { result ≢ Status.WriteFault → (result ≡ answer.now.status)
+        × Appended (K.written sink.old) (K.written sink.new) (whole_text answer.now.texts.items) × (K.faults sink.new ≡ K.faults sink.old) }
+    ensures fault { result ≡ Status.WriteFault → IsTrue (rose (K.faults sink.old) (K.faults sink.new))
+        × AppendedPrefix (K.written sink.old) (K.written sink.new) (whole_text answer.now.texts.items) }
 {
-    write_all(sink, UNBUILT_LINE)
+    match write_each(sink, answer.texts.as_slice()) {
+        Ok(()) => answer.status,
+        Err(_) => Status::WriteFault,
+    }
 }
 
-// Plays what the bytes stand for, and writes its text.
-fn answer<K: Sink, Y: Tally + Send>(
+// The answer of one text.
+fn answer_of(alloc: Global, status: Status, text: Vec<u8>) -> Result<Answer, NoMemory>
+    ensures { IfOk result (λ answer. (answer.status ≡ status) × (whole_text answer.texts.items ≡ text.items)) }
+{
+    let mut texts = Vec::new(alloc);
+    texts.push(text)?;
+    Ok(Answer { status, texts })
+}
+
+// The answer of one line.
+fn line_answer(alloc: Global, status: Status, line: &[u8]) -> Result<Answer, NoMemory>
+    ensures { IfOk result (λ answer. (answer.status ≡ status) × (whole_text answer.texts.items ≡ line.now)) }
+{
+    let text = Vec::from_slice(alloc, line)?;
+    answer_of(alloc, status, text)
+}
+
+// What is said of an input that isn't played.
+fn refusal(alloc: Global, stop: InputStop) -> Result<Answer, NoMemory>
+    ensures answer { (contents : Contents) → Stops stop contents → IfOk result (Answers contents) }
+    ensures unplayed { (contents : Contents) → Stops stop contents → OnOk result (ran_for contents ≡ 0) }
+{
+    match stop {
+        InputStop::NoMemory => Err(NoMemory),
+        InputStop::NotJson => line_answer(alloc, Status::NotJson, NOT_JSON_LINE),
+        InputStop::BadScene(fault) => {
+            let line = fault_text(alloc, &fault, true)?;
+            answer_of(alloc, Status::BadScene, line)
+        }
+        InputStop::BadScript(fault) => {
+            let line = fault_text(alloc, &fault, false)?;
+            answer_of(alloc, Status::BadScript, line)
+        }
+        InputStop::Unbuilt => line_answer(alloc, Status::Unbuilt, UNBUILT_LINE),
+    }
+}
+
+// Plays what the bytes stand for, or says what is wrong with them.
+fn answer_to<Y: Tally>(alloc: Global, bytes: &[u8], tally: &mut Y) -> Result<Answer, NoMemory>
+    requires { Y.count tally.old ≤ 2 ^ 61 }
+    ensures answer { IfOk result (Answers (contents_of bytes.now)) }
+    ensures ticks { OnOk result (Y.count tally.new ≡ Y.count tally.old + ran_for (contents_of bytes.now)) }
+    ensures uncounted { IfOk result (λ answer. answer.status ≢ Status.Ok → tally.new ≡ tally.old) }
+    ensures rises { Y.count tally.old ≤ Y.count tally.new }
+    ensures at_most { Y.count tally.new ≤ Y.count tally.old + ran_for (contents_of bytes.now) }
+{
+    match input_of(alloc, bytes) {
+        Ok(input) => {
+            let texts = play(alloc, input, tally)?;
+            Ok(Answer {
+                status: Status::Ok,
+                texts,
+            })
+        }
+        Err(stop) => refusal(alloc, stop),
+    }
+}
+
+// Answers an input that was read to its end.
+fn respond<K: Sink, Y: Tally + Send>(
     alloc: Global,
     bytes: &[u8],
     sink: &mut K,
     tallies: &mut [Y],
 ) -> Status
     requires { AreTallies Y.count tallies.old }
-    ensures ok { result ≡ Status.Ok → (input : InputRecord) × (input_of bytes.now ≡ Some input)
-        × Appended (K.written sink.old) (K.written sink.new) (text_of input)
-        × (sum_by Y.count tallies.new ≡ sum_by Y.count tallies.old + ran_in input) }
+    ensures ended { result ≢ Status.NoMemory → result ≢ Status.WriteFault → (result ≡ status_for (contents_of bytes.now))
+        × Appended (K.written sink.old) (K.written sink.new) (text_for (contents_of bytes.now))
+        × (sum_by Y.count tallies.new ≡ sum_by Y.count tallies.old + ran_for (contents_of bytes.now)) }
     ensures no_memory { result ≡ Status.NoMemory → sink.new ≡ sink.old }
     ensures write_fault { result ≡ Status.WriteFault → IsTrue (rose (K.faults sink.old) (K.faults sink.new))
-        × AppendedPrefix (K.written sink.old) (K.written sink.new) (text_for (input_of bytes.now)) }
-    ensures unbuilt { result ≡ Status.Unbuilt → (input_of bytes.now ≡ None)
-        × Appended (K.written sink.old) (K.written sink.new) unbuilt_line × (tallies.new ≡ tallies.old) }
+        × AppendedPrefix (K.written sink.old) (K.written sink.new) (text_for (contents_of bytes.now)) }
     ensures no_write_fault { result ≢ Status.WriteFault → K.faults sink.new ≡ K.faults sink.old }
+    ensures uncounted { IsTrue (is_refusal result) → tallies.new ≡ tallies.old }
     ensures rises { sum_by Y.count tallies.old ≤ sum_by Y.count tallies.new }
-    ensures at_most { sum_by Y.count tallies.new ≤ sum_by Y.count tallies.old + ran_for (input_of bytes.now) }
+    ensures at_most { sum_by Y.count tallies.new ≤ sum_by Y.count tallies.old + ran_for (contents_of bytes.now) }
     ensures first_alone { drop 1 tallies.new ≡ drop 1 tallies.old }
-    ensures others { (result ≢ Status.Usage) × (result ≢ Status.ReadFault) }
+    ensures others { (result ≢ Status.Usage) × (result ≢ Status.ReadFault) × (result ≢ Status.TooLong) }
 {
-    let input = match input_of(alloc, bytes) {
-        Ok(input) => input,
-        Err(Unread::NoMemory) => return Status::NoMemory,
-        Err(Unread::OtherForm) => {
-            return match write_unbuilt(sink) {
-                Ok(()) => Status::Unbuilt,
-                Err(_) => Status::WriteFault,
-            };
-        }
-    };
-    match play(alloc, &input, &mut tallies[0]) {
-        Ok(texts) => match write_each(sink, &texts) {
-            Ok(()) => Status::Ok,
-            Err(_) => Status::WriteFault,
-        },
+    match answer_to(alloc, bytes, &mut tallies[0]) {
+        Ok(answer) => finish(sink, &answer),
         Err(_) => Status::NoMemory,
+    }
+}
+
+// Whether the words are a command line whose command is built.
+fn is_eval(alloc: Global, words: &[String]) -> Result<bool, NoMemory>
+    ensures { IfOk result (λ answer. answer ≡ is_eval words.now) }
+{
+    match command_line(alloc, words) {
+        Ok(line) => Ok(is_eval_command(line.command)),
+        Err(CommandStop::Refused) => Ok(false),
+        Err(CommandStop::NoMemory) => Err(NoMemory),
+    }
+}
+
+fn is_eval_command(command: Command) -> bool
+    ensures { result ≡ is_eval_command command }
+{
+    match command {
+        Command::Eval => true,
+        Command::Check | Command::Play | Command::Rehearse => false,
     }
 }
 
 /// Runs a command that always returns: `eval`, which plays the one track of the input.
 ///
 /// `words` has the program's name first. Of the tallies the first one ticks once for each operation that runs.
-/// Where the words aren't a command line nothing is read. Whatever fails, want of memory leaves the sink alone.
+/// Where the words aren't a command line, or name a command that isn't built, nothing is read. Whatever fails, want of memory leaves
+/// the sink alone.
 pub fn run_plain<S: Source, K: Sink, Y: Tally + Send>(
     alloc: Global,
     words: &[String],
@@ -115,16 +200,21 @@ pub fn run_plain<S: Source, K: Sink, Y: Tally + Send>(
         (K.written sink.old) (K.written sink.new) (sum_by Y.count tallies.old) (sum_by Y.count tallies.new) }
     ensures ok_words { result ≡ Status.Ok → is_eval words.now ≡ true }
 
-    // Usage comes exactly where the words aren't the two that are known, but for a failed write of its line.
+    // Usage comes exactly where the words aren't a command line, or its command isn't built, but for want of memory and for a failed
+    // write of its line.
     ensures usage { result ≡ Status.Usage → (is_eval words.now ≡ false)
         × Appended (K.written sink.old) (K.written sink.new) usage_line }
     ensures other_words { is_eval words.now ≡ false →
-        ((result ≡ Status.Usage) ⊎ (result ≡ Status.WriteFault)) × (source.new ≡ source.old) }
+        ((result ≡ Status.Usage) ⊎ (result ≡ Status.WriteFault) ⊎ (result ≡ Status.NoMemory)) × (source.new ≡ source.old) }
 
-    // Unbuilt comes where too many bytes came, or bytes that stand for no input.
-    ensures unbuilt { result ≡ Status.Unbuilt → (is_eval words.now ≡ true)
-        × Appended (K.written sink.old) (K.written sink.new) unbuilt_line
-        × (GaveOneMore (S.left source.old) (S.left source.new) MAX_INPUT_BYTES ⊎ ReadNoInput (S.left source.old) (S.left source.new)) }
+    // TooLong comes where the source gave more bytes than the limit.
+    ensures too_long { result ≡ Status.TooLong → (is_eval words.now ≡ true)
+        × Appended (K.written sink.old) (K.written sink.new) too_long_line
+        × GaveOneMore (S.left source.old) (S.left source.new) MAX_INPUT_BYTES }
+
+    // NotJson, BadScene, BadScript and Unbuilt come where that is what the bytes stand for.
+    ensures refused { IsTrue (is_refusal result) → (is_eval words.now ≡ true)
+        × Refuses (S.left source.old) (S.left source.new) (K.written sink.old) (K.written sink.new) result }
 
     // The faults of the outside have their causes.
     ensures read_fault { result ≡ Status.ReadFault → (is_eval words.now ≡ true)
@@ -140,8 +230,7 @@ pub fn run_plain<S: Source, K: Sink, Y: Tally + Send>(
     ensures no_write_fault { result ≢ Status.WriteFault → K.faults sink.new ≡ K.faults sink.old }
 
     // What is counted where nothing was played, or not to its end.
-    ensures uncounted { (result ≡ Status.Usage) ⊎ (result ≡ Status.ReadFault) ⊎ (result ≡ Status.Unbuilt) →
-        tallies.new ≡ tallies.old }
+    ensures uncounted { result ≢ Status.Ok → result ≢ Status.NoMemory → result ≢ Status.WriteFault → tallies.new ≡ tallies.old }
     ensures counted { (result ≡ Status.NoMemory) ⊎ (result ≡ Status.WriteFault) →
         CountsAtMost (S.left source.old) (S.left source.new) (sum_by Y.count tallies.old) (sum_by Y.count tallies.new) }
     ensures first_alone { drop 1 tallies.new ≡ drop 1 tallies.old }
@@ -150,27 +239,24 @@ pub fn run_plain<S: Source, K: Sink, Y: Tally + Send>(
     ensures complete { is_eval words.now ≡ true → rose (S.faults source.old) (S.faults source.new) ≡ false →
         rose (K.faults sink.old) (K.faults sink.new) ≡ false → EndsAs (S.left source.old) result }
 {
-    if !is_eval(words) {
-        return match write_usage(sink) {
-            Ok(()) => Status::Usage,
-            Err(_) => Status::WriteFault,
-        };
+    match is_eval(alloc, words) {
+        Ok(true) => {}
+        Ok(false) => return tell(sink, USAGE_LINE, Status::Usage),
+        Err(_) => return Status::NoMemory,
     }
     match read_all(alloc, source, MAX_INPUT_BYTES) {
-        Ok(bytes) => answer(alloc, &bytes, sink, tallies),
+        Ok(bytes) => respond(alloc, &bytes, sink, tallies),
         Err(ReadStop::NoMemory) => Status::NoMemory,
         Err(ReadStop::Fault) => Status::ReadFault,
-        Err(ReadStop::TooLong) => match write_unbuilt(sink) {
-            Ok(()) => Status::Unbuilt,
-            Err(_) => Status::WriteFault,
-        },
+        Err(ReadStop::TooLong) => tell(sink, TOO_LONG_LINE, Status::TooLong),
     }
 }
 
 /// Runs a command. At present each one always returns, and is run as [`run_plain`] runs it.
 ///
 /// `words` has the program's name first. Of the tallies the first one ticks once for each operation that runs.
-/// Where the words aren't a command line nothing is read. Whatever fails, want of memory leaves the sink alone.
+/// Where the words aren't a command line, or name a command that isn't built, nothing is read. Whatever fails, want of memory leaves
+/// the sink alone.
 pub fn run<S: Source, K: Sink, Y: Tally + Send>(
     alloc: Global,
     words: &[String],
@@ -185,16 +271,21 @@ pub fn run<S: Source, K: Sink, Y: Tally + Send>(
         (K.written sink.old) (K.written sink.new) (sum_by Y.count tallies.old) (sum_by Y.count tallies.new) }
     ensures ok_words { result ≡ Status.Ok → is_eval words.now ≡ true }
 
-    // Usage comes exactly where the words aren't the two that are known, but for a failed write of its line.
+    // Usage comes exactly where the words aren't a command line, or its command isn't built, but for want of memory and for a failed
+    // write of its line.
     ensures usage { result ≡ Status.Usage → (is_eval words.now ≡ false)
         × Appended (K.written sink.old) (K.written sink.new) usage_line }
     ensures other_words { is_eval words.now ≡ false →
-        ((result ≡ Status.Usage) ⊎ (result ≡ Status.WriteFault)) × (source.new ≡ source.old) }
+        ((result ≡ Status.Usage) ⊎ (result ≡ Status.WriteFault) ⊎ (result ≡ Status.NoMemory)) × (source.new ≡ source.old) }
 
-    // Unbuilt comes where too many bytes came, or bytes that stand for no input.
-    ensures unbuilt { result ≡ Status.Unbuilt → (is_eval words.now ≡ true)
-        × Appended (K.written sink.old) (K.written sink.new) unbuilt_line
-        × (GaveOneMore (S.left source.old) (S.left source.new) MAX_INPUT_BYTES ⊎ ReadNoInput (S.left source.old) (S.left source.new)) }
+    // TooLong comes where the source gave more bytes than the limit.
+    ensures too_long { result ≡ Status.TooLong → (is_eval words.now ≡ true)
+        × Appended (K.written sink.old) (K.written sink.new) too_long_line
+        × GaveOneMore (S.left source.old) (S.left source.new) MAX_INPUT_BYTES }
+
+    // NotJson, BadScene, BadScript and Unbuilt come where that is what the bytes stand for.
+    ensures refused { IsTrue (is_refusal result) → (is_eval words.now ≡ true)
+        × Refuses (S.left source.old) (S.left source.new) (K.written sink.old) (K.written sink.new) result }
 
     // The faults of the outside have their causes.
     ensures read_fault { result ≡ Status.ReadFault → (is_eval words.now ≡ true)
@@ -210,8 +301,7 @@ pub fn run<S: Source, K: Sink, Y: Tally + Send>(
     ensures no_write_fault { result ≢ Status.WriteFault → K.faults sink.new ≡ K.faults sink.old }
 
     // What is counted where nothing was played, or not to its end.
-    ensures uncounted { (result ≡ Status.Usage) ⊎ (result ≡ Status.ReadFault) ⊎ (result ≡ Status.Unbuilt) →
-        tallies.new ≡ tallies.old }
+    ensures uncounted { result ≢ Status.Ok → result ≢ Status.NoMemory → result ≢ Status.WriteFault → tallies.new ≡ tallies.old }
     ensures counted { (result ≡ Status.NoMemory) ⊎ (result ≡ Status.WriteFault) →
         CountsAtMost (S.left source.old) (S.left source.new) (sum_by Y.count tallies.old) (sum_by Y.count tallies.new) }
     ensures first_alone { drop 1 tallies.new ≡ drop 1 tallies.old }

@@ -1,5 +1,5 @@
 -- The conditions that every scene meets, as tests of its records. An absent record passes; what is named is there.
-use Rattle.std.specs.Prelude.{ℕ, ◌+◌, ◌==◌, ℤ, pos, ◌&&◌, List, [], ◌∷◌, length, map, filter, sum_by, slice_get, Bool, true, false, nat_lt, nat_le, int_le, Option, is_some, option_map, option_and_then}
+use Rattle.std.specs.Prelude.{◌≡◌, IsTrue, ℕ, ◌+◌, ◌==◌, ℤ, pos, ◌&&◌, List, [], ◌∷◌, length, map, filter, sum_by, slice_get, Bool, true, false, nat_lt, nat_le, int_le, Option, is_some, option_map, option_and_then}
 use Rattle.std.specs.Option.{option_map_or}
 use Rattle.std.specs.List.{list_all, list_any}
 use Rattle.rig_scene.specs.declared.id.AnimId.{AnimId}
@@ -226,3 +226,9 @@ unfoldable pub is_scene : SceneRecord → Bool
 is_scene s =
     are_actions s.actions && are_armatures s.armatures && are_pencils (length s.actions) s.pencils && are_bound s
     && are_objects s && are_drivers s
+
+-- a scene with the numbers of its keys and of its layer keys
+pub record CountedScene (s : SceneRecord) (keys layer_keys : ℕ) : Type 0 where
+  pub is_scene : IsTrue (is_scene s)
+  pub counts_keys : keys ≡ key_count s.actions
+  pub counts_layer_keys : layer_keys ≡ layer_key_count s.pencils

@@ -5,7 +5,8 @@
 //! in the world then ([`laws::a_child_moves_with_its_parent`]).
 //!
 //! - Records are plain data with public fields. [`Scene`] alone keeps conditions over several of them: names are distinct,
-//!   what is named is there, frames and ids rise, and the counts keep the [`limits`].
+//!   what is named is there, frames and ids rise, and the counts keep the [`limits`]. It has the number of all keys of curves
+//!   and of layers beside its lists, so that an edit needn't count them.
 //! - A [`Quantity`] is a value that a scene has at a frame, an [`OpId`] the operation that computes it, and a [`Read`] what
 //!   one quantity needs of another. A reference read that would close a cycle is cut ([`CutRead`]), and gives the rest
 //!   value of its source.
@@ -20,6 +21,7 @@
 mod action;
 mod armature;
 mod channel;
+mod counts;
 mod driver;
 mod find;
 mod id;
@@ -39,6 +41,7 @@ pub mod value_laws;
 pub use action::{Action, Curve, Interp, Key};
 pub use armature::{ArmatureData, RestBone};
 pub use channel::{Axis, Channel, Channels};
+pub use counts::{key_count, layer_key_count};
 pub use driver::{Driver, DriverKind, Space, Variable};
 pub use id::{AnimId, ObjectId};
 pub use keys::{Keyframe, index_after, index_from, keys_around};

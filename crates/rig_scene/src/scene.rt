@@ -12,7 +12,9 @@ use std::marker::Model;
 
 /// The records of a scene. Names are distinct in their lists, whatever a record names is there and of the
 /// kind that is wanted, frames of keys rise, ids rise and lie below `next`, and the counts keep the limits.
-/// Contracts see it as the record of its lists.
+/// `key_count` is the number of keys of all curves, and `layer_key_count` that of the keys of all layers: they are kept so
+/// that nobody counts again ([`key_count`](crate::key_count) and [`layer_key_count`](crate::layer_key_count) give them to
+/// who makes a scene of lists). Contracts see it as the record of its lists, which determine both numbers.
 #[derive(Debug, Drop)]
 pub struct Scene {
     pub actions: List<Action>,
@@ -21,12 +23,13 @@ pub struct Scene {
     pub objects: List<Object>,
     pub drivers: List<Driver>,
     pub next: u32,
+    pub key_count: usize,
+    pub layer_key_count: usize,
 }
 
 impl Model for Scene {
-    ghost use Rattle.std.specs.Prelude.{IsTrue};
     ghost use Rattle.rig_scene.specs.Scene.{SceneRecord};
-    ghost use Rattle.rig_scene.specs.WellFormed.{is_scene};
+    ghost use Rattle.rig_scene.specs.WellFormed.{CountedScene};
 
     ghost Value = { SceneRecord };
 
@@ -39,14 +42,14 @@ impl Model for Scene {
       next = s.next;
     } };
 
-    ghost invariant = { λ s. IsTrue (is_scene (record {
+    ghost invariant = { λ s. CountedScene (record {
       actions = s.actions;
       armatures = s.armatures;
       pencils = s.pencils;
       objects = s.objects;
       drivers = s.drivers;
       next = s.next;
-    })) };
+    }) s.key_count s.layer_key_count };
 }
 
 impl Clone for Scene {
@@ -60,6 +63,8 @@ impl Clone for Scene {
             objects: equal_clone(&self.objects)?,
             drivers: equal_clone(&self.drivers)?,
             next: self.next,
+            key_count: self.key_count,
+            layer_key_count: self.layer_key_count,
         })
     }
 }

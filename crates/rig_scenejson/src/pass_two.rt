@@ -1,7 +1,8 @@
 //! The second pass: finds what the names of a scene refer to, and makes its records.
 #![tactic(auto, using(crate::proofs::First::first_append))]
 
-ghost use Rattle.std.specs.Prelude.{◌≡◌, []};
+ghost use Rattle.std.specs.Prelude.{◌≡◌, [], IsTrue};
+ghost use Rattle.rig_scene.specs.WellFormed.{is_scene};
 ghost use Rattle.serde_json.specs.View.{view};
 ghost use Rattle.rig_scenejson.specs.Tests.{Reads, first};
 ghost use Rattle.rig_scenejson.specs.Given.{scene_given};
@@ -26,8 +27,11 @@ use armatures::ArmatureReader;
 use drivers::DriverReader;
 use objects::ObjectReader;
 use pencils::PencilReader;
-use rig_scene::Scene;
+use rig_io::List;
 use rig_scene::limits::MAX_POSE_BONES;
+use rig_scene::{
+    Action, ArmatureData, Driver, Object, PencilData, Scene, key_count, layer_key_count,
+};
 use serde_json::Value;
 use std::alloc::Global;
 
@@ -52,12 +56,45 @@ pub(crate) fn read_scene(
     let objects = read_list(alloc, value, Member::Objects, &objects, &mut bones_left)?;
     let drivers = DriverReader { lookup: &lookup };
     let drivers = read_list(alloc, value, Member::Drivers, &drivers, &mut ())?;
-    Ok(Scene {
-        actions: list_at(alloc, Member::Actions, value)?,
+    let actions = list_at(alloc, Member::Actions, value)?;
+    let next = item_count(value, Member::Objects) as u32;
+    Ok(counted_scene(actions, armatures, pencils, objects, drivers, next))
+}
+
+/// The scene of these lists, with the numbers of its keys.
+fn counted_scene(
+    actions: List<Action>,
+    armatures: List<ArmatureData>,
+    pencils: List<PencilData>,
+    objects: List<Object>,
+    drivers: List<Driver>,
+    next: u32,
+) -> Scene
+    requires { IsTrue (is_scene (record {
+      actions = actions;
+      armatures = armatures;
+      pencils = pencils;
+      objects = objects;
+      drivers = drivers;
+      next = next;
+    })) }
+    ensures { result ≡ record {
+      actions = actions;
+      armatures = armatures;
+      pencils = pencils;
+      objects = objects;
+      drivers = drivers;
+      next = next;
+    } }
+{
+    Scene {
+        key_count: key_count(actions.as_slice()),
+        layer_key_count: layer_key_count(pencils.as_slice()),
+        actions,
         armatures,
         pencils,
         objects,
         drivers,
-        next: item_count(value, Member::Objects) as u32,
-    })
+        next,
+    }
 }

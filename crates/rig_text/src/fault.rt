@@ -1,10 +1,9 @@
 //! The line of a fault of reading.
 ghost use Rattle.std.specs.Prelude.{◌≡◌, ◌++◌, OnOk, IfOk};
-ghost use Rattle.std.specs.Fmt.{decimal};
 ghost use Rattle.std.specs.List.{flat_map};
 ghost use Rattle.rig_text.specs.Fault.{status_words, fault_head, hop_text, place_words, fault_line};
 
-use itoa::Buffer;
+use crate::number::push_number;
 use rig_io::NoMemory;
 use rig_scenejson::{Cause, Fault, Hop};
 use std::alloc::Global;
@@ -71,13 +70,5 @@ fn push_hop(text: &mut Vec<u8>, hop: Hop) -> Result<(), NoMemory>
         Hop::Member(member) => text.extend_from_slice(member.word().as_bytes())?,
         Hop::Index(index) => push_number(text, index)?,
     }
-    Ok(())
-}
-
-fn push_number(text: &mut Vec<u8>, n: u32) -> Result<(), NoMemory>
-    ensures { OnOk result (text.new.items ≡ text.old.items ++ decimal n) }
-{
-    let mut buffer = Buffer::new();
-    text.extend_from_slice(buffer.format(n).as_bytes())?;
     Ok(())
 }

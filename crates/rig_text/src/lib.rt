@@ -2,10 +2,14 @@
 //!
 //! # Examples
 //!
-//! The fault S7 of a scene, at the parent of its second object:
+//! The fault S7 of a scene, at the parent of its second object ([`fault_text`]), and the history of a frame and a refused edit
+//! ([`history_text`]):
 //!
 //! ```text
 //! fault BadScene S7 /scene/objects/1/parent
+//!
+//! turn 0 track 0 step 0 look
+//! turn 1 track 0 step 1 refused E5
 //! ```
 //!
 //! # Rules
@@ -15,11 +19,19 @@
 //!   The empty place leaves the line ending after the cause.
 //! - Each text is new memory. Want of memory is the only error, and leaves nothing behind.
 //!
-//! Frames, histories and the lines of `check` come with the graph that they show.
+//! A frame is of empty objects: bones, geometry and full frames come with the graph that evaluates them, as do the lines of
+//! `check`.
 #![tactic(auto)]
 
 mod fault;
+mod frame;
+mod history;
+mod number;
 #[cfg(test)]
 mod tests;
+mod track;
 
 pub use fault::fault_text;
+pub use frame::frame_text;
+pub use history::{Reply, Turn, history_text};
+pub use track::{edit_text, frame_step_text, track_text};

@@ -1,5 +1,6 @@
 //! The lines of faults, byte by byte.
 mod edits;
+mod plays;
 mod reading;
 mod scripts;
 

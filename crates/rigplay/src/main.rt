@@ -60,3 +60,6 @@ fn run_standard<R: Env + AllocGlobal + Input + Print>(rt: &R) -> Result<Status, 
 fn main(rt: HostRuntime) -> ExitCode {
     ExitCode::from(status_of(run_standard(&rt)).code())
 }
+
+#[cfg(test)]
+mod tests;

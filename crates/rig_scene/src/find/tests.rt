@@ -47,6 +47,8 @@ fn arm_and_armature(alloc: Global) -> Result<Scene, Fail> {
         objects,
         drivers: List::new(alloc),
         next: 8,
+        key_count: 0,
+        layer_key_count: 0,
     })
 }
 

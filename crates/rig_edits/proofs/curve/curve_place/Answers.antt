@@ -25,7 +25,7 @@ returns-in-Some-index_of_path c =
     c.as_slice-2.ensures c.in-Some-index_of_path.ensures in (
       known_curve s action path c.in-Some.action c.get.result.now found at c.in-Some-index_of_path.curve curve,
       curve_place s action path c.in-Some.action c.get.result.now found at c.in-Some-index_of_path.curve curve
-          (subst (λ (s : SceneRecord). IsTrue (is_scene s)) c.scene.view_is c.scene.invariant),
+          (subst (λ (s : SceneRecord). IsTrue (is_scene s)) c.scene.view_is c.scene.invariant.is_scene),
     )
 
 pub returns-in-None : goal.returns-in-None

@@ -1,4 +1,4 @@
-use Rattle.std.proofs.Common.{◌≡◌, None, Some, not, ap, ◌∙◌, subst, w32, w64, to_z, of_z}
+use Rattle.std.proofs.Common.{arith, ◌≡◌, None, Some, not, ap, ◌∙◌, subst, w32, w64, to_z, of_z}
 use Rattle.std.proofs.lemmas.Int.{to_z-of_z}
 use Rattle.rig_scene.specs.FactsHold.{scene_facts}
 use Rattle.rig_scene.specs.Scene.{SceneRecord}
@@ -11,8 +11,8 @@ use Rattle.rig_edits.proofs.KeyPlaceFacts.{frame_in_bits}
 use Rattle.rig_edits.proofs.StepFacts.{refused}
 use Rattle.rig_edits.proofs.curve.new_key.Goals as goal
 
-pub room_for_key-requires-clause-count : goal.room_for_key-requires-clause-count
-room_for_key-requires-clause-count c = (scene_facts _ c.scene.invariant).actions.keys
+pub room_for_key-requires-clause-within : goal.room_for_key-requires-clause-within
+room_for_key-requires-clause-within c = omega (arith, c.scene.invariant.counts_keys, (scene_facts _ c.scene.invariant.is_scene).actions.keys)
 
 pub returns-in_err-room_for_key : goal.returns-in_err-room_for_key
 returns-in_err-room_for_key c =

@@ -14,7 +14,7 @@ pub overflow_cast-result : goal.overflow_cast-result
 overflow_cast-result c =
     let at : FoundAt (λ (p : PencilData). same_text p.name c.in-Pencil.name) c.scene.inside.pencils c.in-Some.pencil =
     subst (λ ps. FoundAt (λ (p : PencilData). same_text p.name c.in-Pencil.name) ps c.in-Some.pencil) c.as_slice.ensures c.in-Some.ensures in
-    pencil_fits _ c.scene.invariant c.in-Some.pencil at.within
+    pencil_fits _ c.scene.invariant.is_scene c.in-Some.pencil at.within
 
 pub returns-in-Some : goal.returns-in-Some
 returns-in-Some c =

@@ -16,4 +16,4 @@ returns-in-Some c = record {
 }
 
 pub room_for-requires-clause-count : goal.room_for-requires-clause-count
-room_for-requires-clause-count c = few_drivers _ c.scene.invariant c.len.result c.len.ensures
+room_for-requires-clause-count c = few_drivers _ c.scene.invariant.is_scene c.len.result c.len.ensures

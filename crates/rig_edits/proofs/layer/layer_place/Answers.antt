@@ -24,7 +24,7 @@ returns-in-Some-index_named c =
     c.as_slice-2.ensures c.in-Some-index_named.ensures in (
       known_layer s pencil layer c.in-Some.pencil c.get.result.now found at c.in-Some-index_named.layer in_pencil,
       layer_place s pencil layer c.in-Some.pencil c.get.result.now found at c.in-Some-index_named.layer in_pencil
-          (subst (λ (s : SceneRecord). IsTrue (is_scene s)) c.scene.view_is c.scene.invariant),
+          (subst (λ (s : SceneRecord). IsTrue (is_scene s)) c.scene.view_is c.scene.invariant.is_scene),
     )
 
 pub returns-in-None : goal.returns-in-None

@@ -6,5 +6,5 @@ pub returns-in-Some-clause-below : goal.returns-in-Some-clause-below
 returns-in-Some-clause-below c =
     let within = c.in-Some.ensures.within in
     let same = ap length c.as_slice.ensures in
-    let count = (scene_facts _ c.scene.invariant).pencils.count in
+    let count = (scene_facts _ c.scene.invariant.is_scene).pencils.count in
     omega arith

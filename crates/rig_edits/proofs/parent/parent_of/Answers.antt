@@ -10,6 +10,6 @@ overflow_cast-bone c =
     let at = c.in_ok-index.ensures.1 in
     let few : c.in_ok-bone_of-in-Some.field-0 < MAX_BONES =
     bone_below c.args.scene.now
-    (subst (λ s. IsTrue (is_scene s)) c.scene.view_is c.scene.invariant) at.element.kind c.in-Some.bone c.in_ok-bone_of-in-Some.field-0
+    (subst (λ s. IsTrue (is_scene s)) c.scene.view_is c.scene.invariant.is_scene) at.element.kind c.in-Some.bone c.in_ok-bone_of-in-Some.field-0
     (c.in_ok-bone_of-in-Some.ensures at.element at.is_at).1 in
     omega arith

@@ -1,6 +1,7 @@
-use Rattle.std.proofs.Common.{sym, subst, to_z, of_z, w64}
+use Rattle.std.proofs.Common.{refl, sym, subst, to_z, of_z, w64}
 use Rattle.std.proofs.lemmas.Int.{to_z-of_z}
 use Rattle.rig_scene.specs.Scene.{SceneRecord}
+use Rattle.rig_edits.proofs.KeyCounts.{still_counted, layers_kept}
 use Rattle.rig_edits.proofs.PointFacts.{FoundPlace, point_moved, point_kept}
 use Rattle.rig_edits.specs.Points.{HasPoint}
 use Rattle.rig_edits.proofs.point.move_point.Goals as goal
@@ -11,8 +12,10 @@ set_point-requires c = subst (λ (s : SceneRecord). HasPoint s.pencils c.in_ok-p
 pub invariant_of-scene : goal.invariant_of-scene
 invariant_of-scene c =
     rw c.set_point.ensures
+    (still_counted _ _ _ _ c.scene.invariant
     (point_kept _ c.args.scene.now c.scene.view_is c.args.pencil.now _ _ _ c.in_ok-place.place c.in_ok-place.ensures c.args.to.now c.in_ok-to.to
-    c.in_ok-to.ensures c.scene.invariant)
+    c.in_ok-to.ensures c.scene.invariant.is_scene)
+    refl (layers_kept _ (λ p. refl) c.in_ok-place.place.pencil c.scene.inside.pencils))
 
 pub returns : goal.returns
 returns c =

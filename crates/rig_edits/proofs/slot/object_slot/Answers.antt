@@ -15,7 +15,7 @@ use Rattle.rig_edits.proofs.slot.object_slot.Goals as goal
 
 pub returns-in-Own : goal.returns-in-Own
 returns-in-Own c =
-    let is : IsTrue (is_scene c.args.scene.now) = subst (λ s. is_scene s ≡ true) c.scene.view_is c.scene.invariant in
+    let is : IsTrue (is_scene c.args.scene.now) = subst (λ s. is_scene s ≡ true) c.scene.view_is c.scene.invariant.is_scene in
     let at : FoundAt (λ (o : Object). same_text o.name c.args.name.now) c.args.scene.now.objects c.in-Some.object =
     subst (λ os. FoundAt (λ (o : Object). same_text o.name c.args.name.now) os c.in-Some.object)
     (c.as_slice.ensures ∙ ap (λ (s : SceneRecord). s.objects) c.scene.view_is) c.in-Some.ensures in
@@ -27,7 +27,7 @@ returns-in-Own c =
 
 pub returns-in_ok-bone-in-Bone : goal.returns-in_ok-bone-in-Bone
 returns-in_ok-bone-in-Bone c =
-    let is : IsTrue (is_scene c.args.scene.now) = subst (λ s. is_scene s ≡ true) c.scene.view_is c.scene.invariant in
+    let is : IsTrue (is_scene c.args.scene.now) = subst (λ s. is_scene s ≡ true) c.scene.view_is c.scene.invariant.is_scene in
     let at : FoundAt (λ (o : Object). same_text o.name c.args.name.now) c.args.scene.now.objects c.in-Some.object =
     subst (λ os. FoundAt (λ (o : Object). same_text o.name c.args.name.now) os c.in-Some.object)
     (c.as_slice.ensures ∙ ap (λ (s : SceneRecord). s.objects) c.scene.view_is) c.in-Some.ensures in
@@ -41,7 +41,7 @@ returns-in_ok-bone-in-Bone c =
 
 pub returns-in_err-bone-in-Bone : goal.returns-in_err-bone-in-Bone
 returns-in_err-bone-in-Bone c =
-    let is : IsTrue (is_scene c.args.scene.now) = subst (λ s. is_scene s ≡ true) c.scene.view_is c.scene.invariant in
+    let is : IsTrue (is_scene c.args.scene.now) = subst (λ s. is_scene s ≡ true) c.scene.view_is c.scene.invariant.is_scene in
     let at : FoundAt (λ (o : Object). same_text o.name c.args.name.now) c.args.scene.now.objects c.in-Some.object =
     subst (λ os. FoundAt (λ (o : Object). same_text o.name c.args.name.now) os c.in-Some.object)
     (c.as_slice.ensures ∙ ap (λ (s : SceneRecord). s.objects) c.scene.view_is) c.in-Some.ensures in

@@ -1,42 +1,40 @@
-use Rattle.std.proofs.Common.{◌≡◌, ◌+◌, ap, ◌∙◌, Some, if◌then◌else◌, arith, w32}
+use Rattle.std.proofs.Common.{◌≡◌, ◌+◌, ◌≤◌, length, ap, sym, ◌∙◌, if◌then◌else◌, arith, w32}
 use Rattle.std.proofs.lemmas.Int.{to_z-of_z}
+use Rattle.rig_scene.specs.declared.limits.TheConstants.{MAX_OBJECTS}
 use Rattle.rig_play.specs.declared.engine.Pass.{Pass}
-use Rattle.rig_play.specs.Follows.{is_first, is_moved, objects_ran, all_stand}
-use Rattle.rig_play.proofs.Passes.{ran-is, stand-from_scratch, follows-frame, time-most}
+use Rattle.rig_play.specs.Flush.{flushed, is_first, is_moved}
+use Rattle.rig_play.specs.Stands.{all_stand, objects_ran}
+use Rattle.rig_play.proofs.Held.{few_objects}
+use Rattle.rig_play.proofs.Passes.{pass-is, stands-frame, time-most}
+use Rattle.rig_play.proofs.PlainOperations.{flushed_count}
 use Rattle.rig_play.proofs.engine.Engine.evaluate.Goals as goal
 
-pub overflow_add-result : goal.overflow_add-result
-overflow_add-result g c =
-    let few = time-most c.of-pass.result.moved in
-    let most = c.run_objects-objects.ensures.few in
-    let time = c.run_time-time.ensures.ran in
-    omega arith
+pub run_objects-objects-requires-clause-room : goal.run_objects-objects-requires-clause-room
+run_objects-objects-requires-clause-room g c =
+    let few : length c.self.inside.scene.objects ≤ MAX_OBJECTS = few_objects c.self.inside.scene c.self.invariant.is_scene in
+    omega (arith, few, time-most c.of-pass.result.moved, c.run_time-time.ensures.ran, c.run_time-time.ensures.ticks, c.requires)
 
-pub returns-clause-values : goal.returns-clause-values
-returns-clause-values g c = λ steps f.
-    let e = c.args.self.now in
-    let base = c.args.scene.now in
+pub invariant_of-self : goal.invariant_of-self
+invariant_of-self g c =
+    let e = c.self.inside in
     let frame = to_z-of_z w32 c.args.frame c.ranges.frame in
     let pass : c.of-pass.result ≡ record { frame = c.args.frame; first = is_first e.last; moved = is_moved e.last c.args.frame } =
     rw frame at c.of-pass.ensures in
-    c.run_objects-objects.ensures.kept
-    ∙ ap (λ (p : Pass). all_stand base p.first p.moved p.frame base.objects e.originals.items e.marks.items e.kept.items) pass
-    ∙ stand-from_scratch base steps c.args.frame e f
+    let stood = c.run_objects-objects.ensures.worlds
+    ∙ ap (λ (p : Pass). all_stand e.scene p.first p.moved p.frame e.scene.objects e.marks e.worlds) pass
+    ∙ pass-is e.scene e.marks e.worlds e.last c.args.frame c.self.invariant in
+    rw frame (stands-frame e.scene e.marks c.run_objects-objects.new.marks e.worlds c.run_objects-objects.new.worlds e.last c.args.frame c.self.invariant
+    c.run_objects-objects.ensures.marks stood)
 
 pub returns-clause-ran : goal.returns-clause-ran
-returns-clause-ran g c = λ steps f.
-    let e = c.args.self.now in
-    let base = c.args.scene.now in
+returns-clause-ran g c =
+    let e = c.self.inside in
+    let s = c.self.invariant in
     let frame = to_z-of_z w32 c.args.frame c.ranges.frame in
     let pass : c.of-pass.result ≡ record { frame = c.args.frame; first = is_first e.last; moved = is_moved e.last c.args.frame } =
     rw frame at c.of-pass.ensures in
     ap (λ n. n + c.run_objects-objects.result) c.run_time-time.ensures.ran
     ∙ ap (λ n. (if c.of-pass.result.moved then 1 else 0) + n) c.run_objects-objects.ensures.ran
-    ∙ ap (λ (p : Pass). (if p.moved then 1 else 0) + objects_ran p.first p.moved base.objects e.marks.items) pass
-    ∙ ran-is base steps c.args.frame e f
-
-pub returns-clause-follows : goal.returns-clause-follows
-returns-clause-follows g c = λ steps f.
-    follows-frame c.args.scene.now steps c.args.frame c.args.self.now _ f
-    c.run_objects-objects.ensures.originals (returns-clause-values g c steps f) c.run_objects-objects.ensures.marks
-    (ap Some (to_z-of_z w32 c.args.frame c.ranges.frame))
+    ∙ ap (λ (p : Pass). (if p.moved then 1 else 0) + objects_ran p.first p.moved e.scene.objects e.marks) pass
+    ∙ sym (flushed_count (record { scene = e.scene; set = e.marks; last = e.last }) c.args.frame s.is_scene s.plain s.marks_length)
+    ∙ ap (λ p. length (flushed p c.args.frame)) c.self.view_is

@@ -1,6 +1,0 @@
-use Rattle.std.proofs.Common.{◌≡◌, ◌+◌, drop}
-use Rattle.rig_scene.specs.WellFormed.{key_count}
-use Rattle.rig_edits.proofs.curve.key_count.Given as goal
-
-abbrev pub invariant-loop-action : goal.invariant-loop-action
-invariant-loop-action l = l.count + key_count (drop l.action-index l.actions) ≡ key_count l.actions
