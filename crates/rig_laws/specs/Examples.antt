@@ -1,6 +1,8 @@
 -- Small records for examples.
-use Rattle.std.specs.Prelude.{pos, [], ◌∷◌, codes, Some, None}
+use Rattle.std.specs.Prelude.{ℕ, ◌+◌, ◌*◌, pos, [], ◌∷◌, codes, Some, None}
 use Rattle.rig_scene.specs.declared.object.Kind.TheVariants as kind
+use Rattle.rig_scene.specs.declared.operation.OpId.{OpId}
+use Rattle.rig_scene.specs.declared.operation.OpId.TheVariants.{Driver, Local, World}
 use Rattle.rig_scene.specs.Examples.{object, channels_at, empty_object, scene_of}
 use Rattle.rig_scene.specs.Scene.{SceneRecord}
 
@@ -28,3 +30,10 @@ own_parent = record {
   drivers = [];
   next = 1;
 }
+
+-- numbers of the operations of a scene with empty objects and one driver
+abbrev pub numbered : OpId → ℕ
+numbered (Driver id path) = 1
+numbered (Local o) = 2 + 2 * o.0
+numbered (World o) = 3 + 2 * o.0
+numbered op = 0

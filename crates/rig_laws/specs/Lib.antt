@@ -3,6 +3,7 @@ pub mod Rank
 pub mod Kept
 pub mod Members
 pub mod ValueOver
+pub mod LinkArrows
 pub mod Examples
 -- what the proofs need
 pub mod Lists
@@ -22,3 +23,10 @@ pub mod Lengths
 pub mod DrivenBones
 pub mod FewLinks
 pub mod LinksAcyclic
+pub mod InStep
+pub mod LinksInStep
+pub mod LinksBetween
+pub mod LinksAsReads
+pub mod LinkWalks
+pub mod LinkCuts
+pub mod CutLinks

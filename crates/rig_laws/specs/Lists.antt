@@ -1,10 +1,11 @@
--- Membership in lists that are mapped, joined, counted and searched.
-use Rattle.std.specs.Prelude.{◌≡◌, ℕ, zero, suc, ◌+◌, ◌<◌, ◌≤◌, List, [], ◌∷◌, ◌++◌, map, length, Bool, true, false, Option, Some, None, slice_get, is_some, option_map, option_and_then, Contains, All}
+-- Lists that are mapped, joined, filtered, counted and searched, and what their elements are.
+use Rattle.std.specs.Prelude.{◌≡◌, ℕ, zero, suc, ◌+◌, ◌<◌, ◌≤◌, ◌&&◌, List, [], ◌∷◌, ◌++◌, map, length, filter, Bool, true, false, Option, Some, None, slice_get, is_some, option_map, option_and_then, Contains, All}
 use Rattle.std.specs.Option.{option_map_or}
 use Rattle.std.specs.List.{find, flat_map, filter_map, cons_option, range_with_len, enumerate_from, slice_index_or}
-use Rattle.std.proofs.Common.{refl, sym, ap, subst, cond, arith, ◌∙◌, true≢false}
-use Rattle.std.proofs.lemmas.List.Elements.{All-nil, All-cons, All-head, All-tail, All-weaker, Contains-append_left, Contains-append_right, Contains-get_or}
-use Rattle.rig_cycles.specs.Elements.{element_first, element_later}
+use Rattle.std.proofs.Common.{⊎_elim, refl, sym, ap, subst, cond, arith, ◌∙◌, true≢false}
+use Rattle.std.proofs.lemmas.List.{map-append}
+use Rattle.std.proofs.lemmas.List.Elements.{All-nil, All-cons, All-head, All-tail, All-weaker, Contains-append_left, Contains-append_right, Contains-append_cases, Contains-get_or, filter-append}
+use Rattle.rig_cycles.specs.Elements.{element_first, element_later, element_cases, element_none}
 
 -- ---- what holds of each element
 
@@ -53,6 +54,41 @@ map_same f g (x ∷ xs) h =
     let rest = map_same f g xs (All-tail (λ x. f x ≡ g x) x xs h) in
     λ i. first i ∷ rest i
 
+-- a filter of what a function gives
+pub filter_of_map : {X Y : Type 0} (p : Y → Bool) (f : X → Y) (xs : List X) → filter p (map f xs) ≡ map f (filter (λ x. p (f x)) xs)
+filter_of_map p f [] = refl
+filter_of_map {X} p f (x ∷ xs) = by (p (f x)) (filter_of_map p f xs)
+  where
+    by : (b : Bool) → filter p (map f xs) ≡ map f (filter (λ x. p (f x)) xs) → cond b (f x ∷ filter p (map f xs)) (filter p (map f xs)) ≡ map f (cond b (x ∷ filter (λ x. p (f x)) xs) (filter (λ x. p (f x)) xs))
+    by true e = ap (λ l. f x ∷ l) e
+    by false e = e
+
+-- a filter of what another keeps
+pub filter_of_filter : {X : Type 0} (p q : X → Bool) (xs : List X) → filter p (filter q xs) ≡ filter (λ x. q x && p x) xs
+filter_of_filter p q [] = refl
+filter_of_filter p q (x ∷ xs) = by (q x) (filter_of_filter p q xs)
+  where
+    by : (b : Bool) → filter p (filter q xs) ≡ filter (λ x. q x && p x) xs → filter p (cond b (x ∷ filter q xs) (filter q xs)) ≡ cond (b && p x) (x ∷ filter (λ x. q x && p x) xs) (filter (λ x. q x && p x) xs)
+    by true e = ap (λ l. cond (p x) (x ∷ l) l) e
+    by false e = e
+
+-- tests that agree at each element keep the same ones
+pub filter_same : {X : Type 0} (p q : X → Bool) (xs : List X) → ((x : X) → Contains xs x → p x ≡ q x) → filter p xs ≡ filter q xs
+filter_same p q [] h = refl
+filter_same p q (x ∷ xs) h =
+    let first = h x (element_first x xs) in
+    let rest = filter_same p q xs (λ y c. h y (element_later x xs y c)) in
+    λ i. cond (first i) (x ∷ rest i) (rest i)
+
+-- a filter of joined lists, and what a function gives of them
+pub filter_of_flat_map : {X Y : Type 0} (p : Y → Bool) (f : X → List Y) (xs : List X) → filter p (flat_map f xs) ≡ flat_map (λ x. filter p (f x)) xs
+filter_of_flat_map p f [] = refl
+filter_of_flat_map p f (x ∷ xs) = filter-append p (f x) (flat_map f xs) ∙ ap (λ l. filter p (f x) ++ l) (filter_of_flat_map p f xs)
+
+pub map_of_flat_map : {X Y Z : Type 0} (g : Y → Z) (f : X → List Y) (xs : List X) → map g (flat_map f xs) ≡ flat_map (λ x. map g (f x)) xs
+map_of_flat_map g f [] = refl
+map_of_flat_map g f (x ∷ xs) = map-append g (f x) (flat_map f xs) ∙ ap (λ l. map g (f x) ++ l) (map_of_flat_map g f xs)
+
 -- ---- elements
 
 flat_map_at : {X Y : Type 0} (f : X → List Y) (xs : List X) (x : X) (y : Y) → Contains (f x) y → (k : ℕ) → k < length xs → slice_index_or xs k x ≡ x → Contains (flat_map f xs) y
@@ -62,6 +98,21 @@ flat_map_at f (z ∷ zs) x y h (suc k) l s = Contains-append_right (f z) (flat_m
 
 pub Contains-flat_map : {X Y : Type 0} (f : X → List Y) (xs : List X) (x : X) (y : Y) → Contains xs x → Contains (f x) y → Contains (flat_map f xs) y
 Contains-flat_map f xs x y e h = flat_map_at f xs x y h e.0 e.1 e.2
+
+-- what an element of such a list came of
+pub element_of_flat_map : {X Y : Type 0} (f : X → List Y) (xs : List X) (y : Y) → Contains (flat_map f xs) y → (x : X) × Contains xs x × Contains (f x) y
+element_of_flat_map f [] y e = absurd (element_none y e)
+element_of_flat_map f (x ∷ xs) y e =
+    ⊎_elim (λ c. (x, element_first x xs, c))
+    (λ c. let found = element_of_flat_map f xs y c in (found.0, element_later x xs found.0 found.1, found.2))
+    (Contains-append_cases (f x) (flat_map f xs) y e)
+
+pub element_of_map : {X Y : Type 0} (f : X → Y) (xs : List X) (y : Y) → Contains (map f xs) y → (x : X) × Contains xs x × (f x ≡ y)
+element_of_map f [] y e = absurd (element_none y e)
+element_of_map f (x ∷ xs) y e =
+    ⊎_elim (λ s. (x, element_first x xs, s))
+    (λ c. let found = element_of_map f xs y c in (found.0, element_later x xs found.0 found.1, found.2))
+    (element_cases (f x) (map f xs) y e)
 
 pub Contains-range : (a n k : ℕ) → k < n → Contains (range_with_len a n) (a + k)
 Contains-range a zero k l = absurd (omega arith)

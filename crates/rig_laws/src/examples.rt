@@ -1,23 +1,27 @@
 //! What the definitions of the laws give on small scenes, each equation proved by computing it.
-#![tactic(auto, unfolding(rig_scene::specs::WellFormed::is_scene, rig_scene::specs::Cut::cuts, rig_scene::specs::Operations::ins, rig_fixed::specs::Rotation::unit_rotation, rig_fixed::specs::Rotation::product, rig_fixed::specs::Rotation::rotate, rig_fixed::specs::Transform::carry, rig_fixed::specs::Transform::compose, rig_scene::specs::ChannelNumber::original_number, rig_scene::specs::ChannelNumber::animated_number, rig_scene::specs::Value::driver_number, rig_scene::specs::Value::local_transform, rig_scene::specs::Value::world_transform, rig_scene::specs::Value::val))]
+#![tactic(auto, unfolding(rig_scene::specs::WellFormed::is_scene, rig_scene::specs::Cut::cuts, rig_scene::specs::Operations::ins, crate::specs::LinkArrows::link_arrows, rig_fixed::specs::Rotation::unit_rotation, rig_fixed::specs::Rotation::product, rig_fixed::specs::Rotation::rotate, rig_fixed::specs::Transform::carry, rig_fixed::specs::Transform::compose, rig_scene::specs::ChannelNumber::original_number, rig_scene::specs::ChannelNumber::animated_number, rig_scene::specs::Value::driver_number, rig_scene::specs::Value::local_transform, rig_scene::specs::Value::world_transform, rig_scene::specs::Value::val))]
 
-ghost use Rattle.std.specs.Prelude.{◌≡◌, [], ◌∷◌, None, Some, pos, length, nat_lt, true, false};
+ghost use Rattle.std.specs.Prelude.{◌≡◌, ℕ, [], ◌∷◌, None, Some, pos, map, length, nat_eq, nat_lt, true, false};
+ghost use Rattle.rig_cycles.specs.Cut.{cuts_from};
+ghost use Rattle.rig_cycles.specs.Names.{arrow_map};
 ghost use Rattle.rig_fixed.specs.Transform.{identity};
 ghost use Rattle.rig_scene.specs.declared.channel.Channel.TheVariants.{LocX};
 ghost use Rattle.rig_scene.specs.declared.id.AnimId.TheVariants as anim;
 ghost use Rattle.rig_scene.specs.declared.modifier.Mode.TheVariants.{Viewport};
+ghost use Rattle.rig_scene.specs.declared.operation.OpId.{OpId};
 ghost use Rattle.rig_scene.specs.declared.operation.OpId.TheVariants as operation;
 ghost use Rattle.rig_scene.specs.declared.path.Path.TheVariants.{Own};
 ghost use Rattle.rig_scene.specs.declared.quantity.Quantity.TheVariants.{Chan, Local, World, Bone, Layer, Geom};
 ghost use Rattle.rig_scene.specs.Cut.{cuts, is_among, is_cut};
-ghost use Rattle.rig_scene.specs.ExampleCharacter.{character, body, sketch};
+ghost use Rattle.rig_scene.specs.ExampleCharacter.{character, body, sketch, centre, hand_x, offset_x};
 ghost use Rattle.rig_scene.specs.Examples.{object, transform_at, moving_root, parent_after_child, after_itself, ring_of_parents};
 ghost use Rattle.rig_scene.specs.Operations.{ins, kept_link};
 ghost use Rattle.rig_scene.specs.Quantities.{quantities, reads, inner_read, reference_read};
 ghost use Rattle.rig_scene.specs.Value.{Transform, val, value_at};
 ghost use Rattle.rig_scene.specs.WellFormed.{is_scene};
-ghost use Rattle.rig_laws.specs.Examples.{alone, own_parent};
-ghost use Rattle.rig_laws.specs.Kept.{arrow_of, kept_arrows, kept_links};
+ghost use Rattle.rig_laws.specs.Examples.{alone, own_parent, numbered};
+ghost use Rattle.rig_laws.specs.Kept.{arrow_of, kept_arrows, kept_links, cut_links};
+ghost use Rattle.rig_laws.specs.LinkArrows.{inner_link, reference_link, link_arrows, scene_arrows, inner_links, reference_links};
 ghost use Rattle.rig_laws.specs.Members.{has_quantity, has_operation};
 ghost use Rattle.rig_laws.specs.Rank.{rank};
 ghost use Rattle.rig_laws.specs.ValueOver.{value_over};
@@ -105,4 +109,51 @@ pub fn a_cut_source_gives_its_rest()
     ensures child { value_over parent_after_child Viewport (pos 1) (val parent_after_child Viewport (pos 1)) (World (object 1))
         ≡ Some (Transform (transform_at (pos 1000000) (pos 0) (pos 0))) }
     ensures missing { value_over alone Viewport (pos 1) (val alone Viewport (pos 1)) (Local (object 9)) ≡ None }
+{}
+
+/// A parent's x follows its child in the world. The driver and the child read by reference links, and the others by inner
+/// ones. All together make a cycle.
+pub fn links_are_read_in_the_order_of_the_operations()
+    ensures { scene_arrows parent_after_child
+        ≡ reference_link (operation.Driver (anim.Object (object 0)) (Own LocX)) (operation.World (object 1))
+        ∷ inner_link (operation.Local (object 0)) (operation.Driver (anim.Object (object 0)) (Own LocX))
+        ∷ inner_link (operation.World (object 0)) (operation.Local (object 0))
+        ∷ inner_link (operation.World (object 1)) (operation.Local (object 1))
+        ∷ reference_link (operation.World (object 1)) (operation.World (object 0)) ∷ [] }
+{}
+
+/// There the child's link to its parent is the one that is cut.
+pub fn a_cut_link_has_its_operations()
+    ensures { cut_links parent_after_child ≡ reference_link (operation.World (object 1)) (operation.World (object 0)) ∷ [] }
+{}
+
+/// There the child, whose world transform has number 5, is cut off its parent's, of number 3. If the reference links were kept
+/// at first, the parent's would be cut off its local transform. With one number for all operations each link is one of an
+/// operation to itself.
+pub fn links_are_cut_by_numbers()
+    ensures cut { cuts_from nat_eq (map (arrow_map numbered) (inner_links parent_after_child)) (map (arrow_map numbered) (reference_links parent_after_child))
+        ≡ record { reader = 5; source = 3; is_reference = true } ∷ [] }
+    ensures exchanged { cuts_from nat_eq (map (arrow_map numbered) (reference_links parent_after_child)) (map (arrow_map numbered) (inner_links parent_after_child))
+        ≡ record { reader = 3; source = 2; is_reference = false } ∷ [] }
+    ensures one_number { map (arrow_map {B = ℕ} (λ (op : OpId). 0)) (inner_links after_itself)
+        ≡ record { reader = 0; source = 0; is_reference = false } ∷ record { reader = 0; source = 0; is_reference = false } ∷ [] }
+{}
+
+/// The driver of a hand's x follows a driven offset, a channel with a curve, and a centre. A layer with a key reads the time, and
+/// one that is bound its bone. A pose ends after its bones, and a geometry after its last modifier.
+pub fn an_operation_reads_what_it_needs()
+    ensures driver { link_arrows character (operation.Driver (anim.Object body) hand_x)
+        ≡ reference_link (operation.Driver (anim.Object body) hand_x) (operation.Driver (anim.Pencil 0) offset_x)
+        ∷ inner_link (operation.Driver (anim.Object body) hand_x) (operation.Animation (anim.Object body))
+        ∷ reference_link (operation.Driver (anim.Object body) hand_x) (operation.World centre) ∷ [] }
+    ensures layer { link_arrows character (operation.Layer 0 1)
+        ≡ inner_link (operation.Layer 0 1) operation.Time ∷ inner_link (operation.Layer 0 1) (operation.Animation (anim.Pencil 0)) ∷ [] }
+    ensures bound { link_arrows character (operation.Layer 0 0)
+        ≡ inner_link (operation.Layer 0 0) (operation.Animation (anim.Pencil 0))
+        ∷ inner_link (operation.Layer 0 0) (operation.Driver (anim.Pencil 0) offset_x)
+        ∷ reference_link (operation.Layer 0 0) (operation.Bone body 1) ∷ [] }
+    ensures pose { link_arrows character (operation.PoseDone body)
+        ≡ inner_link (operation.PoseDone body) (operation.Bone body 0) ∷ inner_link (operation.PoseDone body) (operation.Bone body 1) ∷ [] }
+    ensures geometry { link_arrows character (operation.GeometryDone sketch)
+        ≡ inner_link (operation.GeometryDone sketch) (operation.ModifierOp sketch 2) ∷ [] }
 {}

@@ -11,6 +11,8 @@
 //!   values of its sources with no depth, and no other values follow so.
 //! - [`operations`]: what an operation of a scene needs is an operation of it. In-links that aren't cut make no cycle,
 //!   and there are fewer than 262,144.
+//! - [`links`]: in-links as reads between operations, before it is known which are cut. Whatever numbers the operations have,
+//!   the same of them are cut as of the reads between quantities. The in-links that are cut are the cut reads.
 //! - [`examples`]: what this crate's own definitions give on small scenes.
 //!
 //! Each law is a function without a body, whose contract is the law. It is also a lemma in `specs/`, which proofs of the
@@ -18,6 +20,7 @@
 #![tactic(auto)]
 
 pub mod examples;
+pub mod links;
 pub mod operations;
 pub mod reads;
 pub mod values;

@@ -1,7 +1,7 @@
 -- Which words are a command line of the program, and what it says. Which word is an option, which is its value and which
 -- is the command is what clap's own definition says of the argument list `app`.
 use Rattle.std.specs.Prelude.{◌≤◌, ℕ, Bool, true, false, List, [], ◌∷◌, Option, Some, None, String, string_bytes, codes}
-use Rattle.std.specs.Prelude.{if◌then◌else◌, is_some, map, option_and_then, option_map, pos}
+use Rattle.std.specs.Prelude.{if◌then◌else◌, map, option_and_then, option_map, pos}
 use Rattle.std.specs.Option.{option_map_or}
 use Rattle.std.specs.Str.{bytes_eq}
 use Rattle.std.specs.Str.Parse.{digits_value, without_leading_plus}
@@ -90,10 +90,6 @@ line_of_texts words = line_without (fault_of app words) (matches_of app words)
 -- what the words say, of which the first is the program's name
 unfoldable pub command_line_of : List (String Global) → Option CommandLine
 command_line_of words = line_of_texts (map string_bytes words)
-
--- the words are a command line of the program
-abbrev pub is_command_line : List (String Global) → Bool
-is_command_line words = is_some (command_line_of words)
 
 -- the numbers of a command line are in their bounds
 pub record InBounds (line : CommandLine) : Type 0 where

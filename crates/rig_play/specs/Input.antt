@@ -1,4 +1,5 @@
--- What the bytes of an input stand for: the scene and the script that are played, or what is wrong with them.
+-- What the bytes of an input stand for, for a command: the scene that is checked, the scene and the script that are played, or
+-- what is wrong with them.
 use Rattle.std.specs.Prelude.{ℕ, ◌&&◌, List, Bool, Option, Some, None, if◌then◌else◌}
 use Rattle.std.specs.Str.{is_utf8}
 use Rattle.serde_json.specs.Data.{Data}
@@ -9,6 +10,9 @@ use Rattle.rig_scenejson.specs.Reading.{scene_of_input, input_faults as scene_fa
 use Rattle.rig_scenejson.specs.Tests.{first}
 use Rattle.rig_scriptjson.specs.declared.script.Script.{Script}
 use Rattle.rig_scriptjson.specs.Script.{script_of_input, input_faults as script_faults}
+use Rattle.rig_play.specs.declared.command.Command.{Command}
+use Rattle.rig_play.specs.declared.command.Command.TheVariants.{Check}
+use Rattle.rig_play.specs.declared.input.TheConstants.{MAX_EVAL_TRACKS}
 use Rattle.rig_play.specs.Plain.{is_plain_scene}
 use Rattle.rig_play.specs.PlainScript.{is_plain_script}
 
@@ -23,6 +27,7 @@ pub data Contents : Type 0 where
   BadScene : Fault → Contents
   BadScript : Fault → Contents
   Unbuilt : Contents
+  Checked : SceneRecord → Contents
   Playable : InputRecord → Contents
 
 -- whether the plain engine plays an input
@@ -42,19 +47,39 @@ abbrev pub by_scene : Option Fault → Option Fault → InputRecord → Contents
 by_scene (Some fault) script_fault input = BadScene fault
 by_scene None script_fault input = by_script script_fault input
 
--- a JSON value as an input. A script has at most one track
-abbrev pub contents_in : Data → Contents
-contents_in d =
-    by_scene (first (scene_faults d)) (first (script_faults 1 d)) (record { scene = scene_of_input d; script = script_of_input d })
+-- a scene that is checked, by its first fault
+abbrev pub by_check : Option Fault → SceneRecord → Contents
+by_check (Some fault) scene = BadScene fault
+by_check None scene = Checked scene
 
-abbrev pub by_reading : Option Data → Contents
-by_reading (Some d) = contents_in d
-by_reading None = NotJson
+-- a JSON value of which the scene is checked
+abbrev pub checked_in : Data → Contents
+checked_in d = by_check (first (scene_faults d)) (scene_of_input d)
+
+-- a JSON value that is played. Its script has at most one track
+abbrev pub played_in : Data → Contents
+played_in d =
+    by_scene (first (scene_faults d)) (first (script_faults MAX_EVAL_TRACKS d))
+    (record { scene = scene_of_input d; script = script_of_input d })
+
+-- what a JSON reading stands for, by what its value does
+abbrev pub by_reading : (Data → Contents) → Option Data → Contents
+by_reading value_contents (Some d) = value_contents d
+by_reading value_contents None = NotJson
 
 -- the JSON reading of UTF-8 text
 abbrev pub reading_of : List ℕ → Option Data
 reading_of bytes = if is_utf8 bytes then read bytes else None
 
--- what bytes stand for
-unfoldable pub contents_of : List ℕ → Contents
-contents_of bytes = by_reading (reading_of bytes)
+-- what bytes stand for of which the scene is checked
+unfoldable pub contents_to_check : List ℕ → Contents
+contents_to_check bytes = by_reading checked_in (reading_of bytes)
+
+-- what bytes stand for that are played
+unfoldable pub contents_to_play : List ℕ → Contents
+contents_to_play bytes = by_reading played_in (reading_of bytes)
+
+-- what bytes stand for, for a command: `check` looks at the scene alone
+abbrev pub contents_for : Command → List ℕ → Contents
+contents_for Check bytes = contents_to_check bytes
+contents_for command bytes = contents_to_play bytes

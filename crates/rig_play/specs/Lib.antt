@@ -8,6 +8,7 @@ pub mod Output
 pub mod Plain
 pub mod PlainScript
 pub mod Input
+pub mod Check
 pub mod Run
 -- what the proofs need
 pub mod Readings

@@ -3,13 +3,14 @@ use Rattle.std.specs.Prelude.{◌≡◌, ℕ, List, [], ◌∷◌, ◌++◌, Opt
 use Rattle.std.specs.List.{flat_map}
 use Rattle.std.specs.declared.alloc.Global.{Global}
 use Rattle.rig_scene.specs.declared.modifier.Mode.{Mode}
+use Rattle.rig_scene.specs.Scene.{SceneRecord}
 use Rattle.rig_scriptjson.specs.declared.script.Step.{Step}
 use Rattle.rig_text.specs.Track.{track_line}
 use Rattle.rig_play.specs.declared.input.InputStop.{InputStop}
 use Rattle.rig_play.specs.declared.input.InputStop.TheVariants as stops
 use Rattle.rig_play.specs.declared.play.Output.{Output}
 use Rattle.rig_play.specs.declared.program.Answer.{Answer}
-use Rattle.rig_play.specs.Input.{InputRecord, Contents, NotJson, BadScene, BadScript, Unbuilt, Playable}
+use Rattle.rig_play.specs.Input.{InputRecord, Contents, NotJson, BadScene, BadScript, Unbuilt, Checked, Playable}
 use Rattle.rig_play.specs.Output.{turn_of, turns_from, step_lines, lines_from}
 use Rattle.rig_play.specs.Run.{status_for, text_for}
 use Rattle.rig_play.specs.State.{PlayState}
@@ -26,6 +27,11 @@ Stops stops.Unbuilt contents = contents ≡ Unbuilt
 abbrev pub Gives : Result InputRecord InputStop → Contents → Type 0
 Gives (Ok input) contents = contents ≡ Playable input
 Gives (Err stop) contents = Stops stop contents
+
+-- what reading a scene alone gave
+abbrev pub GivesScene : Result SceneRecord InputStop → Contents → Type 0
+GivesScene (Ok scene) contents = contents ≡ Checked scene
+GivesScene (Err stop) contents = Stops stop contents
 
 -- texts, one after another
 abbrev pub whole_text : List (Vec ℕ Global) → List ℕ

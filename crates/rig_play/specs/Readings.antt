@@ -1,6 +1,9 @@
 -- What reading the parts of an input gives.
 use Rattle.std.specs.Prelude.{◌≡◌, ◌<◌, length, IsTrue, nat_le, Option, None, Some, Result, Ok, Err}
 use Rattle.std.specs.List.{list_all}
+use Rattle.serde_json.specs.Data.{Data}
+use Rattle.serde_json.specs.View.{view}
+use Rattle.serde_json.specs.declared.value.Value.{Value}
 use Rattle.rig_scene.specs.declared.limits.TheConstants.{MAX_STEPS}
 use Rattle.rig_scene.specs.Scene.{SceneRecord}
 use Rattle.rig_edits.specs.declared.change.TheConstants.{MAX_NEXT}
@@ -10,6 +13,13 @@ use Rattle.rig_play.specs.declared.input.InputStop.{InputStop}
 use Rattle.rig_play.specs.declared.input.InputStop.TheVariants as stops
 use Rattle.rig_play.specs.Plain.{is_plain_scene}
 use Rattle.rig_play.specs.PlainScript.{is_plain_script}
+
+-- the JSON reading of text, or that it has none
+abbrev pub ReadsValue : Result Value InputStop → Option Data → Type 0
+ReadsValue (Ok value) reading = reading ≡ Some (view value)
+ReadsValue (Err stops.NotJson) reading = reading ≡ None
+ReadsValue (Err stops.NoMemory) reading = Unit {0}
+ReadsValue (Err stop) reading = ⊥
 
 -- the scene where it has no fault, or its first fault
 abbrev pub ReadsScene : Result SceneRecord InputStop → SceneRecord → Option Fault → Type 0

@@ -1,12 +1,13 @@
-//! Reads an input from its bytes: the scene and the script that are played, or what is wrong with them.
+//! Reads an input from its bytes: the scene that is checked, the scene and the script that are played, or what is wrong with
+//! them.
 ghost use Rattle.std.specs.Prelude.{◌≡◌};
 ghost use Rattle.serde_json.specs.View.{view};
 ghost use Rattle.rig_scenejson.specs.Reading.{scene_of_input, input_faults as scene_faults};
 ghost use Rattle.rig_scenejson.specs.Tests.{first};
 ghost use Rattle.rig_scriptjson.specs.Script.{script_of_input, input_faults as script_faults};
-ghost use Rattle.rig_play.specs.Input.{contents_in, contents_of};
-ghost use Rattle.rig_play.specs.Made.{Gives};
-ghost use Rattle.rig_play.specs.Readings.{ReadsScene, ReadsScript};
+ghost use Rattle.rig_play.specs.Input.{contents_to_check, contents_to_play, played_in, reading_of};
+ghost use Rattle.rig_play.specs.Made.{Gives, GivesScene};
+ghost use Rattle.rig_play.specs.Readings.{ReadsScene, ReadsScript, ReadsValue};
 
 use crate::plain::{is_plain_scene, is_plain_script};
 use rig_scene::Scene;
@@ -16,8 +17,8 @@ use serde_json::Value;
 use std::alloc::Global;
 use std::marker::Model;
 
-/// How many tracks a script may have.
-const MAX_EVAL_TRACKS: u32 = 1;
+/// How many tracks the script of `eval` may have.
+pub(crate) const MAX_EVAL_TRACKS: u32 = 1;
 
 /// A scene and a script that the plain engine plays. Contracts see it as the two.
 #[derive(Drop)]
@@ -37,7 +38,7 @@ impl Model for Input {
     ghost invariant = { λ i. IsPlayable i.scene i.script };
 }
 
-/// Why there is no input that is played.
+/// Why there is nothing to check or to play.
 #[derive(Drop)]
 pub(crate) enum InputStop {
     /// Memory was refused.
@@ -52,12 +53,27 @@ pub(crate) enum InputStop {
     Unbuilt,
 }
 
-/// What the bytes stand for.
+/// The scene that the bytes stand for. What else they hold isn't looked at.
+pub(crate) fn checked_scene(alloc: Global, bytes: &[u8]) -> Result<Scene, InputStop>
+    ensures { GivesScene result (contents_to_check bytes.now) }
+{
+    let value = value_of(alloc, bytes)?;
+    scene_in(alloc, &value)
+}
+
+/// The scene and the script that the bytes stand for, where the plain engine plays them.
 pub(crate) fn input_of(alloc: Global, bytes: &[u8]) -> Result<Input, InputStop>
-    ensures { Gives result (contents_of bytes.now) }
+    ensures { Gives result (contents_to_play bytes.now) }
+{
+    let value = value_of(alloc, bytes)?;
+    input_in(alloc, &value)
+}
+
+fn value_of(alloc: Global, bytes: &[u8]) -> Result<Value, InputStop>
+    ensures { ReadsValue result (reading_of bytes.now) }
 {
     match Value::from_slice(alloc, bytes) {
-        Ok(value) => input_in(alloc, &value),
+        Ok(value) => Ok(value),
         Err(error) => Err(if error.is_memory() {
             InputStop::NoMemory
         } else {
@@ -67,7 +83,7 @@ pub(crate) fn input_of(alloc: Global, bytes: &[u8]) -> Result<Input, InputStop>
 }
 
 fn input_in(alloc: Global, value: &Value) -> Result<Input, InputStop>
-    ensures { Gives result (contents_in (view value.now)) }
+    ensures { Gives result (played_in (view value.now)) }
 {
     let scene = scene_in(alloc, value)?;
     let script = script_in(alloc, value)?;
@@ -88,7 +104,7 @@ fn scene_in(alloc: Global, value: &Value) -> Result<Scene, InputStop>
 }
 
 fn script_in(alloc: Global, value: &Value) -> Result<Script, InputStop>
-    ensures { ReadsScript result (script_of_input (view value.now)) (first (script_faults 1 (view value.now))) }
+    ensures { ReadsScript result (script_of_input (view value.now)) (first (script_faults MAX_EVAL_TRACKS (view value.now))) }
 {
     match script_of(alloc, value, MAX_EVAL_TRACKS) {
         Ok(script) => Ok(script),

@@ -41,6 +41,7 @@
 #![tactic(auto)]
 
 mod animation;
+mod check;
 mod command;
 mod engine;
 mod input;

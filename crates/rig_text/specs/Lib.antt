@@ -4,3 +4,5 @@ pub mod Line
 pub mod History
 pub mod Track
 pub mod Frame
+pub mod Quantity
+pub mod Check

@@ -1,12 +1,11 @@
 //! The lines of faults, byte by byte.
-mod edits;
+mod check;
 mod plays;
-mod reading;
 mod scripts;
 
 use crate::fault_text;
 use rig_io::{List, NoMemory};
-use rig_scene::{Channel, Path};
+use rig_scene::{Channel, Path, Scene};
 use rig_scenejson::{Cause, Fault, Hop, Member, SceneStop, field, name, number, path, scene_of};
 use serde_json::Value;
 use std::alloc::Global;
@@ -66,6 +65,15 @@ fn input_of(alloc: Global, version: &str, parent: &str, loc: &str) -> Result<Str
             "objects":[{{"name":"Root","kind":"empty","action":"Move"}},
                 {{"name":"Child","kind":"empty","parent":"{parent}","loc":{loc}}}]}}}}"#
     )?)
+}
+
+fn scene_in(alloc: Global, text: &str) -> Result<Scene, Fail> {
+    let input = Value::from_str(alloc, text)?;
+    match scene_of(alloc, &input) {
+        Ok(scene) => Ok(scene),
+        Err(SceneStop::NoMemory) => Err(NoMemory.into()),
+        Err(SceneStop::Fault(fault)) => Err(Fail::new(fault.cause.code())),
+    }
 }
 
 fn first_line_of(alloc: Global, input: &str) -> Result<Vec<u8>, Fail> {

@@ -1,6 +1,8 @@
 //! Whole runs over sources and sinks in memory.
 ghost use Rattle.std.specs.Prelude.{◌<◌};
 
+mod graph;
+
 use super::new_tallies;
 use rig_io::{MemSink, MemSource, Tally};
 use rig_play::{Status, run, run_plain};
@@ -102,6 +104,24 @@ const NULL_EDIT: &str =
     r#"{"scene":{"version":1},"script":{"tracks":[{"mode":"viewport","steps":[{"frame":1,"edit":null}]}]}}"#;
 
 const NOT_JSON: &str = r#"{"scene":{"version":1},"script":{"tracks":[]}"#;
+
+const CARRIED_CHILD: &str = r#"{"scene":{"version":1,
+    "actions":[{"name":"Move","curves":[{"channel":"loc.x","keys":[{"frame":1,"value":0},{"frame":11,"value":10000000}]}]}],
+    "objects":[{"name":"Root","kind":"empty","action":"Move"},
+        {"name":"Child","kind":"empty","parent":"Root","loc":[2000000,0,0]}]}}"#;
+
+const DRIVER_CYCLE: &str = r#"{"scene":{"version":1,
+    "objects":[{"name":"A","kind":"empty"},{"name":"B","kind":"empty","parent":"A","loc":[1000000,0,0]}],
+    "drivers":[{"object":"A","channel":"loc.x","kind":"sum","variables":[
+        {"kind":"transform","object":"B","space":"world","channel":"loc.x"}]}]}}"#;
+
+const OWN_CYCLE: &str = r#"{"scene":{"version":1,"objects":[{"name":"A","kind":"empty"}],
+    "drivers":[{"object":"A","channel":"loc.x","kind":"sum","variables":[
+        {"kind":"property","object":"A","channel":"loc.x"}]}]}}"#;
+
+const BAD_SCRIPT: &str = r#"{"scene":{"version":1},"script":{"tracks":3}}"#;
+
+const NO_SCENE: &str = r#"{"script":{"tracks":[]}}"#;
 
 const USAGE: &str =
     "usage: rigplay <check|eval|play|rehearse> [--workers N] [--trace] [--size N]\n";
@@ -250,7 +270,6 @@ fn other_words_get_the_usage_line(rt: HostRuntime) -> Result<(), Fail> {
     for line in [
         "rigplay",
         "rigplay walk",
-        "rigplay check",
         "rigplay play",
         "rigplay rehearse",
         "rigplay Eval",
@@ -264,6 +283,48 @@ fn other_words_get_the_usage_line(rt: HostRuntime) -> Result<(), Fail> {
         assert_eq!(rt; ended.status, Status::Usage, "{line}");
         assert_eq!(rt; ended.written.as_slice(), USAGE.as_bytes(), "{line}");
         assert_eq!(rt; ended.ticks, 0, "{line}");
+    }
+    Ok(())
+}
+
+#[test]
+fn a_check_tells_counts_and_cut_reads(rt: HostRuntime) -> Result<(), Fail> {
+    let alloc = rt.alloc();
+    for (input, status, text) in [
+        (
+            CARRIED_CHILD,
+            Status::Ok,
+            "objects 2\noperations 6\nlinks 5\ncuts 0\n",
+        ),
+        (
+            DRIVER_CYCLE,
+            Status::Ok,
+            "objects 2\noperations 6\nlinks 5\ncuts 1\ncut world A -> world B\n",
+        ),
+        (
+            OWN_CYCLE,
+            Status::Ok,
+            "objects 1\noperations 4\nlinks 3\ncuts 1\ncut channel object A loc.x -> channel object A loc.x\n",
+        ),
+        (
+            BAD_SCRIPT,
+            Status::Ok,
+            "objects 0\noperations 1\nlinks 0\ncuts 0\n",
+        ),
+        (NO_SCENE, Status::BadScene, "fault BadScene S1 /scene\n"),
+        (
+            UNKNOWN_PARENT,
+            Status::BadScene,
+            "fault BadScene S7 /scene/objects/1/parent\n",
+        ),
+        (NOT_JSON, Status::NotJson, "fault NotJson\n"),
+    ] {
+        let sink = MemSink::new(alloc, 4096, 7, Vec::new(alloc))?;
+        let words = ["rigplay", "check"];
+        let ended = run_on(alloc, words.as_slice(), source_of(alloc, input, 3)?, sink)?;
+        assert_eq!(rt; ended.status, status, "{input}");
+        assert_eq!(rt; ended.written.as_slice(), text.as_bytes(), "{input}");
+        assert_eq!(rt; ended.ticks, 0, "{input}");
     }
     Ok(())
 }

@@ -1,5 +1,5 @@
 //! The lines of a play: histories, tracks and frames.
-use super::edits::scene_in;
+use super::scene_in;
 use crate::{Reply, Turn, edit_text, frame_step_text, frame_text, history_text, track_text};
 use rig_edits::EditCause;
 use rig_fixed::{Fx, V3, Xform};

@@ -1,16 +1,16 @@
-use Rattle.std.proofs.Common.{subst}
-use Rattle.serde_json.specs.View.{view}
+use Rattle.std.proofs.Common.{subst, sym}
+use Rattle.std.proofs.lemmas.Result.{err_from_is_err_and}
+use Rattle.rig_play.specs.Input.{by_reading, contents_to_play, played_in}
 use Rattle.rig_play.specs.Made.{Gives}
-use Rattle.rig_play.proofs.Contents.{contents-read, contents-refused, not_true}
+use Rattle.rig_play.proofs.Contents.{reading-stops}
 use Rattle.rig_play.proofs.input.input_of.Goals as goal
-use Rattle.rig_play.proofs.input.input_of.Goals.{then-is_memory, else-is_memory}
 
-pub returns-in-Ok : goal.returns-in-Ok
-returns-in-Ok c = subst (Gives c.input_in.result) (contents-read c.args.bytes.now (view c.in-Ok.value) c.in-Ok.ensures.ok.0 c.in-Ok.ensures.ok.1) c.input_in.ensures
+pub returns-in_err-value : goal.returns-in_err-value
+unfolding contents_to_play
+returns-in_err-value c =
+    let p = err_from_is_err_and c.from_residual.result c.from_residual.ensures.1 in
+    rw (p.1, p.2) (reading-stops played_in _ _ c.in_err-value.ensures)
 
-pub returns-after-is_memory : goal.returns-after-is_memory
-returns-after-is_memory c =
-    elim c.if-is_memory.branch [
-      | then-is_memory w ↦ rw w.result-is tt
-      | else-is_memory w ↦ rw w.result-is (contents-refused c.args.bytes.now (c.in-Err.ensures.err (λ memory. not_true c.is_memory.result w.if-is_memory.false (c.is_memory.ensures.1 memory))))
-    ]
+pub returns : goal.returns
+unfolding contents_to_play
+returns c = subst (λ r. Gives c.input_in.result (by_reading played_in r)) (sym c.in_ok-value.ensures) c.input_in.ensures

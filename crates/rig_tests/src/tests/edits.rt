@@ -50,7 +50,7 @@ const SCENE: &str = r#"{"scene": {"version": 1,
         {"kind": "property", "pencil": "Ink", "layer": "Fills", "channel": "offset.z"}]}]
 }}"#;
 
-pub(super) fn scene_in(alloc: Global, text: &str) -> Result<Scene, Fail> {
+fn scene_in(alloc: Global, text: &str) -> Result<Scene, Fail> {
     let input = Value::from_str(alloc, text)?;
     match scene_of(alloc, &input) {
         Ok(scene) => Ok(scene),

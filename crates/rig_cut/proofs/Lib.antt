@@ -1,0 +1,11 @@
+pub mod Counts
+pub mod Cutting
+pub mod Found
+pub mod Graphs
+pub mod Indices
+pub mod Listings
+pub mod Marks
+pub mod Members
+pub mod Ordered
+pub mod Planned
+pub mod Releases

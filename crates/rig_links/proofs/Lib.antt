@@ -1,0 +1,12 @@
+mod Drivers
+mod Fits
+mod InOrder
+mod LinksOf
+mod Numbers
+mod ByKey
+mod SceneLinks
+mod Tables
+mod CutReads
+mod OfKind
+mod Pushed
+mod Readers

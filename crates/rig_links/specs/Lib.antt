@@ -1,0 +1,8 @@
+-- what a reader has to believe: the statement
+pub mod Links
+-- what the proofs need
+pub mod Numbers
+pub mod Parts
+pub mod ByKey
+pub mod Tables
+pub mod Report

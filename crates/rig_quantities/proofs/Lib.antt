@@ -1,0 +1,4 @@
+pub mod Rising
+pub mod Picked
+pub mod DriverRows
+pub mod SlotFacts

@@ -1,0 +1,4 @@
+mod Sorted
+mod Flat
+mod Grouped
+mod Select

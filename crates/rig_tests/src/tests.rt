@@ -1,0 +1,3 @@
+//! Scenes that are read from JSON, and edits of them.
+mod edits;
+mod reading;
