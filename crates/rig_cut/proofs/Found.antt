@@ -1,11 +1,11 @@
 -- What a search along kept links finds.
 use Rattle.std.specs.Prelude.{slice_index, nat_eq, Contains}
 use Rattle.std.specs.List.{list_any}
-use Rattle.std.proofs.Common.{◌≡◌, ◌⊎◌, ◌≢◌, ℕ, ◌+◌, ◌<◌, ◌≤◌, Bool, true, false, List, [], ◌∷◌, ◌++◌, length, refl, sym, ap, ◌∙◌, subst, arith, inl, inr, ⊎_elim}
+use Rattle.std.proofs.Common.{◌≡◌, ◌⊎◌, ◌≢◌, ℕ, ◌+◌, ◌<◌, ◌≤◌, Bool, true, false, List, [], ◌∷◌, length, refl, sym, ap, ◌∙◌, subst, arith, inl, inr, ⊎_elim}
 use Rattle.std.proofs.lemmas.Bool.{cond_both, cases_eq}
 use Rattle.std.proofs.lemmas.Bool.Decides.{same_from_decides, Decides-eqb}
-use Rattle.std.proofs.lemmas.List.{append-nil, append_assoc, length-append, get_or_append_left}
-use Rattle.std.proofs.lemmas.List.Elements.{All-contains, Contains-append_left, Contains-push, Contains-push_cases}
+use Rattle.std.proofs.lemmas.List.{length-append, get_or_append_left}
+use Rattle.std.proofs.lemmas.List.Elements.{All-contains}
 use Rattle.rig_cycles.specs.Cut.{Arrow, leads}
 use Rattle.rig_cycles.specs.Walk.{Walk}
 use Rattle.rig_cycles.specs.Walk.Walk.{none, first}
@@ -16,33 +16,7 @@ use Rattle.rig_cut.specs.NodeSets.{Begins, with_node}
 use Rattle.rig_cut.specs.Graphs.{GraphEnds, IsListing, flag}
 use Rattle.rig_cut.specs.Search.{with_source, with_sources, IsSearched}
 use Rattle.rig_cut.proofs.Indices.{row_below, row_key, in_row}
-use Rattle.rig_cut.proofs.Members.{member_decides, index_of_element, element_at}
-
--- ---- a node more
-
-pub begins_itself : (xs : List ℕ) → Begins xs xs
-begins_itself xs = ([], sym (append-nil xs))
-
-pub begins_then : (xs ys zs : List ℕ) → Begins xs ys → Begins ys zs → Begins xs zs
-begins_then xs ys zs p q = (p.0 ++ q.0, q.1 ∙ ap (λ l. l ++ q.0) p.1 ∙ append_assoc xs p.0 q.0)
-
-pub begins_contains : (xs ys : List ℕ) (n : ℕ) → Begins xs ys → Contains xs n → Contains ys n
-begins_contains xs ys n b e = subst (λ l. Contains l n) (sym b.1) (Contains-append_left xs b.0 n e)
-
-pub with_node_begins : (members : List ℕ) (node : ℕ) → Begins members (with_node members node)
-with_node_begins members node =
-    cond_both (list_any (nat_eq node) members) members (members ++ node ∷ []) (λ l. Begins members l)
-    (λ t. begins_itself members) (λ f. (node ∷ [], refl))
-
-pub with_node_has : (members : List ℕ) (node : ℕ) → Contains (with_node members node) node
-with_node_has members node =
-    cond_both (list_any (nat_eq node) members) members (members ++ node ∷ []) (λ l. Contains l node)
-    (λ t. (member_decides members node).0 t) (λ f. Contains-push members node)
-
-pub with_node_of : (members : List ℕ) (node n : ℕ) → Contains (with_node members node) n → Contains members n ⊎ (node ≡ n)
-with_node_of members node n =
-    cond_both (list_any (nat_eq node) members) members (members ++ node ∷ []) (λ l. Contains l n → Contains members n ⊎ (node ≡ n))
-    (λ t e. inl e) (λ f e. Contains-push_cases members node n e)
+use Rattle.rig_cut.specs.MemberTests.{member_decides, index_of_element, element_at, begins_itself, begins_then, begins_contains, with_node_begins, with_node_has, with_node_of}
 
 module _ (ends : GraphEnds) (cuts : List Bool) where
   -- ---- the sources of a row

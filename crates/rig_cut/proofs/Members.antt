@@ -1,35 +1,17 @@
--- Members of lists of numbers, and of sets of nodes.
+-- Members of sets of nodes.
 use Rattle.std.specs.Prelude.{slice_index, slice_set, nat_eq, Contains}
-use Rattle.std.specs.Bool.{Decides}
-use Rattle.std.specs.List.{list_any, IsDistinct}
-use Rattle.std.proofs.Common.{◌≡◌, ◌≢◌, ℕ, ◌<◌, ◌≤◌, false, List, [], ◌∷◌, ◌++◌, length, take, refl, sym, ap, ◌∙◌, subst, arith, ⊎_elim}
+use Rattle.std.specs.List.{list_any, position, IsDistinct}
+use Rattle.std.proofs.Common.{◌≡◌, ◌≢◌, ℕ, ◌<◌, ◌≤◌, true, false, List, [], ◌∷◌, ◌++◌, length, take, Some, sym, ap, ◌∙◌, arith, ⊎_elim}
 use Rattle.std.proofs.lemmas.Bool.{eqb-true, eq-eqb, false_from_ne_true, both_ways, cases_eq}
 use Rattle.std.proofs.lemmas.Bool.Decides.{same_from_decides}
 use Rattle.std.proofs.lemmas.Cmp.{nat_eq_equiv}
 use Rattle.std.proofs.lemmas.List.{get_or_default, get_or-take, get_or_append_left, get_or_push, get_or-set_same, get_or-set_other, length-take-le, length_push, length-set}
-use Rattle.std.proofs.lemmas.List.Elements.{Contains-get_or, All-contains, All-push, All-weaker}
+use Rattle.std.proofs.lemmas.List.Elements.{All-contains, All-push, All-weaker}
 use Rattle.std.proofs.lemmas.Map.Keys.{IsDistinct-from_apart, IsDistinct-push}
 use Rattle.std.proofs.lemmas.Map.Steps.{length-le_from_distinct_below}
-use Rattle.rig_cycles.specs.Elements.{any_from_element, element_from_any}
+use Rattle.rig_cut.specs.MemberTests.{member_decides, not_member, index_of_element, element_at}
 use Rattle.rig_cut.specs.NodeSets.{IsNodeSet}
-
--- ---- lists of numbers
-
-pub member_decides : (xs : List ℕ) (n : ℕ) → Decides (list_any (nat_eq n) xs) (Contains xs n)
-member_decides xs n = (
-  λ t. let found = element_from_any (nat_eq n) xs t in subst (λ z. Contains xs z) (sym (eqb-true n found.0 found.2)) found.1,
-  λ e. any_from_element (nat_eq n) xs n e (eq-eqb n n refl),
-)
-
-pub not_member : (xs : List ℕ) (n : ℕ) → (Contains xs n → ⊥) → list_any (nat_eq n) xs ≡ false
-not_member xs n h = false_from_ne_true _ (λ t. h ((member_decides xs n).0 t))
-
--- the index of an element
-pub index_of_element : (xs : List ℕ) (n : ℕ) → Contains xs n → (k : ℕ) × (k < length xs) × (slice_index xs k ≡ n)
-index_of_element xs n e = (e.0, e.1, get_or_default xs e.0 0 n e.1 ∙ e.2)
-
-pub element_at : (xs : List ℕ) (k n : ℕ) → k < length xs → n ≡ slice_index xs k → Contains xs n
-element_at xs k n h e = subst (λ z. Contains xs z) (sym e) (Contains-get_or xs k 0 h)
+use Rattle.rig_cut.specs.Positions.{position_at}
 
 -- ---- sets of nodes
 
@@ -52,7 +34,17 @@ module _ (members positions : List ℕ) (capacity : ℕ) (set : IsNodeSet member
   same_index : (i j : ℕ) → i < length members → j < length members → slice_index members i ≡ slice_index members j → i ≡ j
   same_index i j h l e = sym (set.at i h) ∙ ap (slice_index positions) e ∙ set.at j l
 
-  distinct : IsDistinct nat_eq members
+  pub is_position : (n p : ℕ) → p ≡ slice_index positions n → list_any (nat_eq n) members ≡ true → position (nat_eq n) members ≡ Some p
+  is_position n p at there =
+      let within = position_of n ((member_decides members n).0 there) in
+      let is : slice_index members p ≡ n = ap (slice_index members) at ∙ within.1 in
+      let l : p < length members = let w = within.0 in omega arith in
+      position_at (nat_eq n) members p 0 l (eq-eqb n (slice_index members p) (sym is))
+      (λ k h. false_from_ne_true (nat_eq n (slice_index members k)) (λ t.
+      let same = same_index k p (omega arith) l (sym (eqb-true n (slice_index members k) t) ∙ sym is) in
+      omega arith))
+
+  pub distinct : IsDistinct nat_eq members
   distinct = IsDistinct-from_apart nat_eq members (λ i j d h l. false_from_ne_true _ (λ t.
       let lower : i < length members = omega arith in
       let e = same_index i j lower l (get_or_default members i 0 d lower ∙ eqb-true _ _ t ∙ get_or_default members j d 0 l) in

@@ -15,7 +15,7 @@ use Rattle.rig_cycles.specs.RankOrder.{rank_exists}
 use Rattle.rig_cut.specs.Graphs.{GraphEnds, IsListing, flag}
 use Rattle.rig_cut.specs.Release.{IsReleased}
 use Rattle.rig_cut.proofs.Counts.{all_done}
-use Rattle.rig_cut.proofs.Members.{member_decides}
+use Rattle.rig_cut.specs.MemberTests.{member_decides}
 
 -- ---- as many numbers as there are, and each of them
 

@@ -12,8 +12,7 @@ use Rattle.rig_cut.specs.NodeSets.{Begins, with_node}
 use Rattle.rig_cut.specs.Graphs.{GraphEnds, flag}
 use Rattle.rig_cut.specs.Release.{is_kept_into, pending_after, AreReady, AreBehindSources, IsReleased}
 use Rattle.rig_cut.proofs.Counts.{pending_before, pending_less, nothing_pending}
-use Rattle.rig_cut.proofs.Found.{with_node_begins, with_node_has, with_node_of, begins_contains}
-use Rattle.rig_cut.proofs.Members.{member_decides, element_at}
+use Rattle.rig_cut.specs.MemberTests.{member_decides, element_at, with_node_begins, with_node_has, with_node_of, begins_contains}
 
 -- ---- a member more
 

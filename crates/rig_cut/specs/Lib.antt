@@ -5,7 +5,9 @@ pub mod Plan
 pub mod Examples
 -- what the proofs need
 pub mod NodeSets
+pub mod MemberTests
 pub mod Graphs
 pub mod Search
 pub mod Release
 pub mod PlanRows
+pub mod Positions

@@ -47,4 +47,5 @@ mod walk;
 
 pub use cuts::cut;
 pub use links::{Cut, Link};
+pub use nodes::NodeSet;
 pub use plan::{MAX_NODES, Plan};

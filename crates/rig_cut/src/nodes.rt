@@ -1,6 +1,6 @@
 //! A set of nodes, each once, in the order in which they were added.
 ghost use Rattle.std.specs.Prelude.{◌≡◌, ℕ, ◌<◌, ◌≤◌, [], length, take, slice_index, slice_get, Some, nat_eq, false, IfOk};
-ghost use Rattle.std.specs.List.{list_any};
+ghost use Rattle.std.specs.List.{All, list_any, position, IsDistinct};
 ghost use Rattle.rig_cut.specs.NodeSets.{with_node, Nodes};
 
 use rig_io::{List, NoMemory};
@@ -60,6 +60,15 @@ impl NodeSet {
         self.members[index]
     }
 
+    /// The members, each once.
+    pub fn as_slice(&self) -> &[u32]
+        ensures members { result.now ≡ self.now.members }
+        ensures below { All (λ n. n < self.now.count) result.now }
+        ensures once { IsDistinct nat_eq result.now }
+    {
+        self.members.as_slice()
+    }
+
     /// Whether a node is a member.
     pub fn contains(&self, node: u32) -> bool
         requires { node < self.now.count }
@@ -67,6 +76,18 @@ impl NodeSet {
     {
         let position = self.positions[node as usize] as usize;
         position < self.members.len() && self.members[position] == node
+    }
+
+    /// The index of a node among the members.
+    pub fn position(&self, node: u32) -> Option<u32>
+        requires { node < self.now.count }
+        ensures { result ≡ position (nat_eq node) self.now.members }
+    {
+        if self.contains(node) {
+            Some(self.positions[node as usize])
+        } else {
+            None
+        }
     }
 
     /// Adds a node at the end, unless it is a member.

@@ -4,7 +4,11 @@ pub mod Kept
 pub mod Members
 pub mod ValueOver
 pub mod LinkArrows
+pub mod Output
+pub mod Kernel
+pub mod OperationValue
 pub mod Examples
+pub mod KernelExamples
 -- what the proofs need
 pub mod Lists
 pub mod FoundObject
@@ -30,3 +34,7 @@ pub mod LinksAsReads
 pub mod LinkWalks
 pub mod LinkCuts
 pub mod CutLinks
+pub mod Taken
+pub mod KindsTaken
+pub mod LinksTaken
+pub mod Follows

@@ -13,13 +13,17 @@
 //!   and there are fewer than 262,144.
 //! - [`links`]: in-links as reads between operations, before it is known which are cut. Whatever numbers the operations have,
 //!   the same of them are cut as of the reads between quantities. The in-links that are cut are the cut reads.
-//! - [`examples`]: what this crate's own definitions give on small scenes.
+//! - [`kernel`]: the value of an operation over the outputs that it takes from its in-links (`specs/Kernel.antt`). Over values from scratch
+//!   it is the operation's value from scratch, and no operation but the time looks at the frame.
+//! - [`examples`], [`kernel_examples`]: what this crate's own definitions give on small scenes.
 //!
 //! Each law is a function without a body, whose contract is the law. It is also a lemma in `specs/`, which proofs of the
 //! crates above cite. Nothing here runs. What a definition of `rig_scene` gives on an example stands there.
 #![tactic(auto)]
 
 pub mod examples;
+pub mod kernel;
+pub mod kernel_examples;
 pub mod links;
 pub mod operations;
 pub mod reads;

@@ -10,3 +10,5 @@ mod CutReads
 mod OfKind
 mod Pushed
 mod Readers
+mod InPlace
+mod PoseNumbers

@@ -22,7 +22,7 @@ use Rattle.rig_links.specs.declared.table.In.{In}
 use Rattle.rig_links.specs.ByKey.{in_of, links_by, in_rows, uncut, reader_rows}
 use Rattle.rig_links.specs.Links.{kept_reads, readers_of}
 use Rattle.rig_links.specs.Numbers.{numbered_links, all_links}
-use Rattle.rig_links.specs.Tables.{IsTable}
+use Rattle.rig_links.specs.Tables.{IsTable, ArePlaces}
 use Rattle.rig_links.proofs.ByKey.{map_alike, map_alike_at, map_twice, AreKeyed, keyed_head, keyed_tail}
 use Rattle.rig_links.proofs.SceneLinks.{within, keyed, links_length, rows_of_operations}
 
@@ -97,13 +97,15 @@ module _ (s : SceneRecord) (met : IsTrue (is_scene s)) where
       ap (map (λ (l : Link). l.reader)) (filter_of_filter (λ (l : Link). l.source == n) (λ l. not (is_cut (all_links s) l)) (all_links s))
       ∙ sym (given (λ m l. m) (λ l. not l.cut && (l.source == n)))
 
-  pub is_table : IsTable rows (reader_rows (all_links s) (length (operations s)))
-  is_table = record {
+  pub is_table : (order places : List ℕ) → length order ≡ length (operations s) → ArePlaces order places → IsTable rows (reader_rows (all_links s) (length (operations s))) order places
+  is_table order places once standing = record {
     readers_are =
         map_alike (λ n. map (λ (l : Link). l.reader) (filter (λ l. l.source == n) (uncut (all_links s)))) (λ n. readers_of n rows) readers_given (range_with_len 0 (length (operations s)))
         ∙ ap (λ count. map (λ n. readers_of n rows) (range_with_len 0 count)) (sym rows_length);
     sources_within = subst (λ count. All (λ row. All (λ (l : In). l.source < count) row) rows) (sym rows_length) sources_within;
     few = omega (arith, rows_count, links_count s met);
+    one_each = once ∙ sym rows_length;
+    places_are = standing;
   }
 
   -- ---- an order

@@ -2,6 +2,7 @@
 pub mod Links
 -- what the proofs need
 pub mod Numbers
+pub mod SameOperation
 pub mod Parts
 pub mod ByKey
 pub mod Tables

@@ -1,8 +1,9 @@
 -- The numbers of operations, and links between them.
-use Rattle.std.specs.Prelude.{ℕ, ◌==◌, ◌&&◌, List, map, Bool, true, false}
+use Rattle.std.specs.Prelude.{◌≡◌, ℕ, ◌+◌, ◌<◌, ◌^◌, ◌==◌, ◌&&◌, List, map, Bool, true, false}
 use Rattle.std.specs.List.{flat_map}
 use Rattle.rig_cycles.specs.RankOrder.{index_in}
 use Rattle.rig_cut.specs.declared.links.Link.{Link}
+use Rattle.rig_scene.specs.declared.id.ObjectId.{ObjectId}
 use Rattle.rig_scene.specs.declared.operation.OpId.{OpId}
 use Rattle.rig_scene.specs.declared.operation.OpId.TheVariants.{Time, Animation, Driver, Local, World, PoseInit, Bone, PoseDone, Layer, Geometry, ModifierOp, GeometryDone}
 use Rattle.rig_scene.specs.Id.{same_object, same_id}
@@ -30,6 +31,18 @@ same_operation a b = false
 -- the number of an operation of a scene, and that behind the last one for any other
 unfoldable pub number_of : SceneRecord → OpId → ℕ
 number_of s op = index_in same_operation (operations s) op
+
+-- The numbers of the operations of an object's pose of so many bones: the start's, behind it in order those of the bones, and behind
+-- them the end's.
+pub record IsPoseFrom (s : SceneRecord) (o : ObjectId) (start count : ℕ) : Type 0 where
+  pub start_is : number_of s (PoseInit o) ≡ start
+  pub bones_are : (b : ℕ) → b < count → number_of s (Bone o b) ≡ start + 1 + b
+  pub done_is : number_of s (PoseDone o) ≡ start + 1 + count
+  pub few : start + 1 + count < 2 ^ 32
+
+-- a link between the operations of two numbers, which is never cut
+abbrev pub between : ℕ → ℕ → Link
+between reader source = record { source = source; reader = reader; reference = false }
 
 -- a link to an operation from the one of a number
 abbrev pub link_to : SceneRecord → ℕ → Bool → OpId → Link

@@ -8,6 +8,7 @@ ghost use Rattle.rig_scene.specs.Operations.{operations, ins};
 ghost use Rattle.rig_links.specs.Links.{AreInsOf, kept_reads};
 ghost use Rattle.rig_links.specs.Report.{reads_of_rows};
 
+use crate::places::places_in;
 use crate::rows::{in_rows, reader_rows};
 use crate::scene_links::scene_links;
 use crate::table::LinkTable;
@@ -36,9 +37,11 @@ pub fn links(alloc: Global, scene: &Scene, nodes: &NodeTable) -> Result<LinkTabl
     let cut = cut(alloc, count, links.as_slice())?;
     let ins = in_rows(alloc, count, links.as_slice(), cut.cuts.as_slice())?;
     let readers = reader_rows(alloc, count, links.as_slice(), cut.cuts.as_slice())?;
+    let places = places_in(alloc, cut.order.as_slice())?;
     Ok(LinkTable {
         ins,
         readers,
         order: cut.order,
+        places,
     })
 }

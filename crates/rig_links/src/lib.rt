@@ -13,6 +13,7 @@
 //! table.readers(5)                   [1]
 //! table.readers(3)                   []: its only link is cut
 //! table.order()                      [0, 4, 5, 1, 2, 3]
+//! table.place(5)                     2
 //! cycle_report(alloc, &scene)        World(A) -> World(B)
 //! ```
 //!
@@ -22,7 +23,8 @@
 //! - A link that stands for a reference read is cut where that read is: where it would close a cycle with those that are tested
 //!   before it and with all that are no reference reads. Every other link is kept.
 //! - [`LinkTable::links`] counts cut links too. [`LinkTable::readers`] and [`LinkTable::order`] go by the others.
-//! - The order has each operation once, behind all that it needs by links that are kept. Ties are free.
+//! - The order has each operation once, behind all that it needs by links that are kept. Ties are free. [`LinkTable::place`] tells
+//!   where an operation stands in it, with no search.
 //! - The tables are made for one scene. After an edit that changes its operations or their links they are made anew.
 //! - Only [`links`], [`LinkTable::cut_reads`] and [`cycle_report`] allocate. Their only error is want of memory.
 //!
@@ -36,6 +38,7 @@ mod driver;
 mod geometry;
 mod layer;
 mod numbered;
+mod places;
 mod pose;
 mod records;
 mod report;

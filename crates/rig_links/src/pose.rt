@@ -1,14 +1,14 @@
-//! Links of the operations of a pose: its start, its bones and its end.
-ghost use Rattle.std.specs.Prelude.{◌≡◌, ◌<◌, ◌^◌, ◌++◌, [], ◌∷◌, length, map, slice_get, Some, OnOk, option_map, option_and_then};
+//! Links of the operations of a pose: its start, its bones and its end. Their numbers follow one another, so that of the start alone
+//! is looked up.
+ghost use Rattle.std.specs.Prelude.{◌≡◌, ◌+◌, ◌<◌, ◌^◌, ◌++◌, [], ◌∷◌, length, map, Some, IsTrue, IfSome, OnOk, option_map};
 ghost use Rattle.std.specs.List.{flat_map, range_with_len};
 ghost use Rattle.std.specs.Option.{option_map_or};
 ghost use Rattle.rig_nodes.specs.Drivers.{driver_indices};
 ghost use Rattle.rig_scene.specs.declared.id.AnimId.TheVariants as anim;
 ghost use Rattle.rig_scene.specs.declared.operation.OpId.TheVariants.{PoseInit, Bone, PoseDone};
 ghost use Rattle.rig_scene.specs.Scene.{object_of};
-ghost use Rattle.rig_scene.specs.WellFormed.{bones_of, pose_count};
-ghost use Rattle.rig_links.specs.Numbers.{numbered_links};
-ghost use Rattle.rig_links.specs.Parts.{inner};
+ghost use Rattle.rig_scene.specs.WellFormed.{is_scene, bones_of, pose_count};
+ghost use Rattle.rig_links.specs.Numbers.{number_of, numbered_links, between, IsPoseFrom};
 
 use crate::driven::push_bone_channels;
 use crate::numbered::NumberedScene;
@@ -25,6 +25,7 @@ pub(crate) fn push_pose(
     armature: &ArmatureData,
     row: &[u32],
 ) -> Result<(), NoMemory>
+    requires scene { IsTrue (is_scene scene.now) }
     requires bones { bones_of scene.now object ≡ Some armature.now.bones }
     requires pose { option_map (λ o. pose_count o.kind) (object_of scene.now object) ≡ Some (length armature.now.bones) }
     requires few { length armature.now.bones < 2 ^ 32 }
@@ -32,37 +33,53 @@ pub(crate) fn push_pose(
     ensures { OnOk result (links.new.items ≡ links.old.items ++ flat_map (numbered_links scene.now)
         (PoseInit object ∷ (map (Bone object) (range_with_len 0 (length armature.now.bones)) ++ PoseDone object ∷ []))) }
 {
-    push_pose_init(links, scene, object)?;
-    push_bones(links, scene, object, armature.bones.as_slice(), row)?;
-    push_pose_done(links, scene, object, armature.bones.len() as u32)
+    let bones = armature.bones.as_slice();
+    let start = pose_start(scene, object, bones);
+    push_pose_init(links, scene, object, start)?;
+    push_bones(links, scene, object, start, bones, row)?;
+    push_pose_done(links, start, bones.len() as u32)
+}
+
+/// The number of the start of an armature object's pose.
+fn pose_start(scene: &NumberedScene, object: ObjectId, bones: &[RestBone]) -> u32
+    requires scene { IsTrue (is_scene scene.now) }
+    requires bones { bones_of scene.now object ≡ Some bones.now }
+    requires pose { option_map (λ o. pose_count o.kind) (object_of scene.now object) ≡ Some (length bones.now) }
+    ensures { IsPoseFrom scene.now object result (length bones.now) }
+{
+    scene.number(&OpId::PoseInit(object))
 }
 
 fn push_pose_init(
     links: &mut Vec<Link>,
     scene: &NumberedScene,
     object: ObjectId,
+    start: u32,
 ) -> Result<(), NoMemory>
+    requires { number_of scene.now (PoseInit object) ≡ start }
     ensures { OnOk result (links.new.items ≡ links.old.items ++ numbered_links scene.now (PoseInit object)) }
 {
-    let reader = scene.number(&OpId::PoseInit(object));
-    scene.push_if_there(links, reader, &OpId::Animation(AnimId::Object(object)))
+    scene.push_if_there(links, start, &OpId::Animation(AnimId::Object(object)))
 }
 
 fn push_bones(
     links: &mut Vec<Link>,
     scene: &NumberedScene,
     object: ObjectId,
+    start: u32,
     bones: &[RestBone],
     row: &[u32],
 ) -> Result<(), NoMemory>
+    requires scene { IsTrue (is_scene scene.now) }
+    requires numbers { IsPoseFrom scene.now object start (length bones.now) }
     requires bones { bones_of scene.now object ≡ Some bones.now }
     requires few { length bones.now < 2 ^ 32 }
     requires row { row.now ≡ driver_indices scene.now (anim.Object object) }
     ensures { OnOk result (links.new.items ≡
         links.old.items ++ flat_map (λ b. numbered_links scene.now (Bone object b)) (range_with_len 0 (length bones.now))) }
 {
-    for (b, bone) in bones.iter().enumerate() {
-        push_bone(links, scene, object, b as u32, bone, row)?;
+    for b in 0..bones.len() as u32 {
+        push_bone(links, scene, object, start, bones, b, row)?;
     }
     Ok(())
 }
@@ -71,48 +88,61 @@ fn push_bone(
     links: &mut Vec<Link>,
     scene: &NumberedScene,
     object: ObjectId,
+    start: u32,
+    bones: &[RestBone],
     b: u32,
-    bone: &RestBone,
     row: &[u32],
 ) -> Result<(), NoMemory>
-    requires bone { option_and_then (λ bones. slice_get bones b) (bones_of scene.now object) ≡ Some bone.now }
+    requires scene { IsTrue (is_scene scene.now) }
+    requires numbers { IsPoseFrom scene.now object start (length bones.now) }
+    requires bones { bones_of scene.now object ≡ Some bones.now }
+    requires bone { b < length bones.now }
     requires row { row.now ≡ driver_indices scene.now (anim.Object object) }
     ensures { OnOk result (links.new.items ≡ links.old.items ++ numbered_links scene.now (Bone object b)) }
 {
-    let reader = scene.number(&OpId::Bone(object, b));
-    scene.push(links, reader, false, &OpId::PoseInit(object))?;
+    let bone = &bones[b as usize];
+    let reader = start + 1 + b;
+    push_between(links, reader, start)?;
     push_bone_channels(links, scene, reader, object, &bone.name, row)?;
-    push_parent_bone(links, scene, reader, object, bone.parent)
+    push_parent_bone(links, reader, start, bone.parent)
+}
+
+/// Adds a link to the operation of a number that is never cut.
+fn push_between(links: &mut Vec<Link>, reader: u32, source: u32) -> Result<(), NoMemory>
+    ensures { OnOk result (links.new.items ≡ links.old.items ++ between reader source ∷ []) }
+{
+    links.push(Link {
+        source,
+        reader,
+        reference: false,
+    })?;
+    Ok(())
 }
 
 fn push_parent_bone(
     links: &mut Vec<Link>,
-    scene: &NumberedScene,
     reader: u32,
-    object: ObjectId,
+    start: u32,
     parent: Option<u32>,
 ) -> Result<(), NoMemory>
+    requires { IfSome parent (λ b. start + 1 + b < 2 ^ 32) }
     ensures { OnOk result (links.new.items ≡
-        links.old.items ++ option_map_or (λ b. inner scene.now reader (Bone object b) ∷ []) parent []) }
+        links.old.items ++ option_map_or (λ b. between reader (start + 1 + b) ∷ []) parent []) }
 {
     if let Some(bone) = parent {
-        scene.push(links, reader, false, &OpId::Bone(object, bone))?;
+        push_between(links, reader, start + 1 + bone)?;
     }
     Ok(())
 }
 
-fn push_pose_done(
-    links: &mut Vec<Link>,
-    scene: &NumberedScene,
-    object: ObjectId,
-    bones: u32,
-) -> Result<(), NoMemory>
-    requires { option_map (λ o. pose_count o.kind) (object_of scene.now object) ≡ Some bones }
-    ensures { OnOk result (links.new.items ≡ links.old.items ++ numbered_links scene.now (PoseDone object)) }
+fn push_pose_done(links: &mut Vec<Link>, start: u32, bones: u32) -> Result<(), NoMemory>
+    requires { start + 1 + bones < 2 ^ 32 }
+    ensures { OnOk result (links.new.items ≡
+        links.old.items ++ map (λ b. between (start + 1 + bones) (start + 1 + b)) (range_with_len 0 bones)) }
 {
-    let reader = scene.number(&OpId::PoseDone(object));
+    let reader = start + 1 + bones;
     for bone in 0..bones {
-        scene.push(links, reader, false, &OpId::Bone(object, bone))?;
+        push_between(links, reader, start + 1 + bone)?;
     }
     Ok(())
 }

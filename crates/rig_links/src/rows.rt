@@ -2,6 +2,7 @@
 ghost use Rattle.std.specs.Prelude.{◌≡◌, ◌<◌, ◌^◌, ◌++◌, [], ◌∷◌, length, map, IfOk, OnOk, if◌then◌else◌};
 ghost use Rattle.std.specs.List.{All};
 ghost use Rattle.rig_cut.specs.Links.{is_cut};
+ghost use Rattle.rig_rows.specs.Rows.{grouped};
 ghost use Rattle.rig_links.specs.ByKey.{in_of, in_rows, uncut, reader_rows};
 
 use crate::table::In;
@@ -22,10 +23,19 @@ pub(crate) fn in_rows(
     requires cuts { cuts.now ≡ map (is_cut links.now) links.now }
     ensures { IfOk result (λ rows. rows ≡ in_rows links.now count) }
 {
-    let readers = readers_of(alloc, links)?;
+    let rows = by_reader(alloc, count, links)?;
     let ins = ins_of(alloc, links, cuts)?;
-    let rows = Rows::grouped(alloc, count, readers.as_slice())?;
     rows.select(alloc, ins.as_slice())
+}
+
+/// The indices of links by reader.
+fn by_reader(alloc: Global, count: u32, links: &[Link]) -> Result<Rows<u32>, NoMemory>
+    requires in_range { All (λ l. l.reader < count) links.now }
+    requires few { length links.now < 2 ^ 32 }
+    ensures { IfOk result (λ rows. rows ≡ grouped count (map (λ l. l.reader) links.now)) }
+{
+    let readers = readers_of(alloc, links)?;
+    Rows::grouped(alloc, count, readers.as_slice())
 }
 
 /// The readers of each source below a number by links that aren't cut, in order.
@@ -40,21 +50,25 @@ pub(crate) fn reader_rows(
     requires cuts { cuts.now ≡ map (is_cut links.now) links.now }
     ensures { IfOk result (λ rows. rows ≡ reader_rows links.now count) }
 {
-    let kept = kept_links(alloc, links, cuts)?;
-    let sources = sources_of(alloc, kept.as_slice())?;
-    let readers = readers_of(alloc, kept.as_slice())?;
-    let rows = Rows::grouped(alloc, count, sources.as_slice())?;
+    let rows = kept_by_source(alloc, count, links, cuts)?;
+    let readers = kept_readers(alloc, links, cuts)?;
     rows.select(alloc, readers.as_slice())
 }
 
-fn sources_of(alloc: Global, links: &[Link]) -> Result<Vec<u32>, AllocError>
-    ensures { IfOk result (λ list. list.items ≡ map (λ l. l.source) links.now) }
+/// The indices of the links that aren't cut, among these, by source.
+fn kept_by_source(
+    alloc: Global,
+    count: u32,
+    links: &[Link],
+    cuts: &[bool],
+) -> Result<Rows<u32>, NoMemory>
+    requires in_range { All (λ l. l.source < count) links.now }
+    requires few { length links.now < 2 ^ 32 }
+    requires cuts { cuts.now ≡ map (is_cut links.now) links.now }
+    ensures { IfOk result (λ rows. rows ≡ grouped count (map (λ l. l.source) (uncut links.now))) }
 {
-    let mut list = Vec::with_capacity(alloc, links.len())?;
-    for link in links {
-        list.push(link.source)?;
-    }
-    Ok(list)
+    let sources = kept_sources(alloc, links, cuts)?;
+    Rows::grouped(alloc, count, sources.as_slice())
 }
 
 fn readers_of(alloc: Global, links: &[Link]) -> Result<Vec<u32>, AllocError>
@@ -81,22 +95,35 @@ fn ins_of(alloc: Global, links: &[Link], cuts: &[bool]) -> Result<Vec<In>, Alloc
     Ok(list)
 }
 
-fn kept_links(alloc: Global, links: &[Link], cuts: &[bool]) -> Result<Vec<Link>, AllocError>
+/// The sources of the links that aren't cut.
+fn kept_sources(alloc: Global, links: &[Link], cuts: &[bool]) -> Result<Vec<u32>, AllocError>
     requires { cuts.now ≡ map (is_cut links.now) links.now }
-    ensures { IfOk result (λ list. list.items ≡ uncut links.now) }
+    ensures { IfOk result (λ list. list.items ≡ map (λ l. l.source) (uncut links.now)) }
 {
-    let mut list = Vec::new(alloc);
+    let mut list = Vec::with_capacity(alloc, links.len())?;
     for (index, link) in links.iter().enumerate() {
-        push_unless(&mut list, cuts[index], *link)?;
+        push_unless(&mut list, cuts[index], link.source)?;
     }
     Ok(list)
 }
 
-fn push_unless(list: &mut Vec<Link>, is_cut: bool, link: Link) -> Result<(), AllocError>
-    ensures { OnOk result (list.new.items ≡ list.old.items ++ (if is_cut then [] else link ∷ [])) }
+/// The readers of the links that aren't cut.
+fn kept_readers(alloc: Global, links: &[Link], cuts: &[bool]) -> Result<Vec<u32>, AllocError>
+    requires { cuts.now ≡ map (is_cut links.now) links.now }
+    ensures { IfOk result (λ list. list.items ≡ map (λ l. l.reader) (uncut links.now)) }
+{
+    let mut list = Vec::with_capacity(alloc, links.len())?;
+    for (index, link) in links.iter().enumerate() {
+        push_unless(&mut list, cuts[index], link.reader)?;
+    }
+    Ok(list)
+}
+
+fn push_unless(list: &mut Vec<u32>, is_cut: bool, number: u32) -> Result<(), AllocError>
+    ensures { OnOk result (list.new.items ≡ list.old.items ++ (if is_cut then [] else number ∷ [])) }
 {
     if !is_cut {
-        list.push(link)?;
+        list.push(number)?;
     }
     Ok(())
 }

@@ -21,6 +21,9 @@ use rig_rows::Rows;
 use rig_scene::{AnimId, Kind, Object, OpId, PencilData, Scene};
 use std::alloc::Global;
 
+/// Room is taken for this many links an operation. A bone has three with those of the end of its pose.
+const LINKS_OF_MOST: usize = 3;
+
 /// The links of all operations of a scene whose operations `nodes` numbers, before it is known which are cut. Those of each
 /// operation are in order, and the operations are in the order of their numbers.
 ///
@@ -38,7 +41,7 @@ pub(crate) fn scene_links(
 {
     let rows = drivers_by_owner(alloc, scene)?;
     let numbered = NumberedScene::new(scene, nodes);
-    let mut links = Vec::with_capacity(alloc, nodes.len() as usize)?;
+    let mut links = Vec::with_capacity(alloc, LINKS_OF_MOST * nodes.len() as usize)?;
     push_pencils(&mut links, &numbered, &rows)?;
     push_objects(&mut links, &numbered, &rows)?;
     Ok(links)

@@ -1,5 +1,5 @@
 //! The in-links of a scene's operations, by number.
-ghost use Rattle.std.specs.Prelude.{◌≡◌, ◌<◌, length, slice_get, Some};
+ghost use Rattle.std.specs.Prelude.{◌≡◌, ◌<◌, ◌^◌, length, slice_get, Some};
 ghost use Rattle.std.specs.List.{All};
 ghost use Rattle.rig_rows.specs.Rows.{joined};
 ghost use Rattle.rig_links.specs.Links.{readers_of};
@@ -23,6 +23,7 @@ pub struct LinkTable {
     pub(crate) ins: Rows<In>,
     pub(crate) readers: Rows<u32>,
     pub(crate) order: List<u32>,
+    pub(crate) places: Vec<u32>,
 }
 
 impl Model for LinkTable {
@@ -33,7 +34,7 @@ impl Model for LinkTable {
 
     ghost view = { λ t. record { ins = t.ins; order = t.order } };
 
-    ghost invariant = { λ t. IsTable t.ins t.readers };
+    ghost invariant = { λ t. IsTable t.ins t.readers t.order t.places.items };
 }
 
 impl LinkTable {
@@ -42,6 +43,7 @@ impl LinkTable {
         requires { n < length self.now.ins }
         ensures row { slice_get self.now.ins n ≡ Some result.now }
         ensures within { All (λ l. l.source < length self.now.ins) result.now }
+        ensures few { length (joined self.now.ins) < 2 ^ 32 }
     {
         self.ins.get(n as usize)
     }
@@ -59,6 +61,15 @@ impl LinkTable {
         ensures { result.now ≡ self.now.order }
     {
         self.order.as_slice()
+    }
+
+    /// The index in [`LinkTable::order`] of the operation of a number.
+    pub fn place(&self, n: u32) -> u32
+        requires { n < length self.now.ins }
+        ensures stands { slice_get self.now.order result ≡ Some n }
+        ensures within { result < length self.now.ins }
+    {
+        self.places[n as usize]
     }
 
     /// The operations that need the one of a number by links that aren't cut, in order, one for each such link.

@@ -1,5 +1,5 @@
 -- How many points an effect leaves.
-use Rattle.std.proofs.Common.{◌≡◌, ℕ, ◌+◌, ◌-◌, ◌*◌, ◌<◌, ◌≤◌, nat_le, if◌then◌else◌, IsTrue, ◌⊎◌, inl, inr, List, [], ◌∷◌, ◌++◌, length, map, Bool, true, false, refl, sym, ◌∙◌, ap, arith}
+use Rattle.std.proofs.Common.{◌≡◌, ℕ, ◌+◌, ◌-◌, ◌*◌, ◌<◌, ◌≤◌, nat_le, if◌then◌else◌, IsTrue, ◌⊎◌, inl, inr, List, [], ◌∷◌, ◌++◌, length, map, Bool, true, false, Some, None, unwrap_or, refl, sym, ◌∙◌, ap, arith}
 use Rattle.std.specs.List.{flat_map, range_with_len}
 use Rattle.std.proofs.lemmas.Bool.{false≢true}
 use Rattle.std.proofs.lemmas.Bool.Decides.{nat_tests}
@@ -17,6 +17,7 @@ use Rattle.rig_scene.specs.declared.modifier.Mirror.{Mirror as MirrorRecord}
 use Rattle.rig_scene.specs.declared.limits.TheConstants.{MAX_RESULT_POINTS}
 use Rattle.rig_scene.specs.Layer.{stroke_points, map_points}
 use Rattle.rig_scene.specs.Modify.{reflection_on, mirrored_on, mirror_strokes, times, array_strokes, effect_strokes, modify}
+use Rattle.rig_modifiers.specs.Few.{if_few}
 use Rattle.rig_modifiers.specs.Copies.{sides_on, mirror_copies, array_copies, copies}
 
 points-cons : (s : Stroke) (ss : List Stroke) → stroke_points (s ∷ ss) ≡ length s.points + stroke_points ss
@@ -91,31 +92,37 @@ points-effect (Array count offset) centre ss = points-array count offset ss
 le-or-lt : (n most : ℕ) → (n ≤ most) ⊎ (most < n)
 le-or-lt n most = grind (arith, nat_tests)
 
-if-within : (n : ℕ) (few many : List Stroke) → n ≤ MAX_RESULT_POINTS → (if nat_le n MAX_RESULT_POINTS then few else many) ≡ few
+if-within : {X : Type 0} (n : ℕ) (few many : X) → n ≤ MAX_RESULT_POINTS → (if nat_le n MAX_RESULT_POINTS then few else many) ≡ few
 if-within n few many within =
     let test : nat_le n MAX_RESULT_POINTS ≡ true = grind (arith, nat_tests) in
     rw test
 
-if-above : (n : ℕ) (few many : List Stroke) → MAX_RESULT_POINTS < n → (if nat_le n MAX_RESULT_POINTS then few else many) ≡ many
+if-above : {X : Type 0} (n : ℕ) (few many : X) → MAX_RESULT_POINTS < n → (if nat_le n MAX_RESULT_POINTS then few else many) ≡ many
 if-above n few many above =
     let test : nat_le n MAX_RESULT_POINTS ≡ false = grind (arith, nat_tests) in
     rw test
 
--- the effect is what a modifier does where there is room
-pub modify-within : (effect : Effect) (centre : V3) (ss : List Stroke) (n : ℕ) → n ≡ copies effect → n * stroke_points ss ≤ MAX_RESULT_POINTS → effect_strokes effect centre ss ≡ modify effect centre ss
-unfolding modify
-modify-within effect centre ss n is within =
+-- an effect's strokes are few where its copies are
+pub few-within : (effect : Effect) (centre : V3) (ss : List Stroke) (n : ℕ) → n ≡ copies effect → n * stroke_points ss ≤ MAX_RESULT_POINTS → Some (effect_strokes effect centre ss) ≡ if_few (effect_strokes effect centre ss)
+few-within effect centre ss n is within =
     let points : n * stroke_points ss ≡ stroke_points (effect_strokes effect centre ss) = ap (λ n. n * stroke_points ss) is ∙ sym (points-effect effect centre ss) in
     let few : stroke_points (effect_strokes effect centre ss) ≤ MAX_RESULT_POINTS = omega arith in
-    sym (if-within (stroke_points (effect_strokes effect centre ss)) (effect_strokes effect centre ss) ss few)
+    sym (if-within (stroke_points (effect_strokes effect centre ss)) (Some (effect_strokes effect centre ss)) None few)
 
--- the strokes stay where there is none
-pub modify-above : (effect : Effect) (centre : V3) (ss : List Stroke) (n : ℕ) → n ≡ copies effect → MAX_RESULT_POINTS < n * stroke_points ss → ss ≡ modify effect centre ss
-unfolding modify
-modify-above effect centre ss n is above =
+pub few-above : (effect : Effect) (centre : V3) (ss : List Stroke) (n : ℕ) → n ≡ copies effect → MAX_RESULT_POINTS < n * stroke_points ss → None ≡ if_few (effect_strokes effect centre ss)
+few-above effect centre ss n is above =
     let points : n * stroke_points ss ≡ stroke_points (effect_strokes effect centre ss) = ap (λ n. n * stroke_points ss) is ∙ sym (points-effect effect centre ss) in
     let many : MAX_RESULT_POINTS < stroke_points (effect_strokes effect centre ss) = omega arith in
-    sym (if-above (stroke_points (effect_strokes effect centre ss)) (effect_strokes effect centre ss) ss many)
+    sym (if-above (stroke_points (effect_strokes effect centre ss)) (Some (effect_strokes effect centre ss)) None many)
+
+-- what a modifier does: the strokes of the effect where they are few, else the strokes as they are
+by_few : (b : Bool) (few ss : List Stroke) → unwrap_or (if b then Some few else None) ss ≡ (if b then few else ss)
+by_few true few ss = refl
+by_few false few ss = refl
+
+pub modify-by_few : (effect : Effect) (centre : V3) (ss : List Stroke) → unwrap_or (if_few (effect_strokes effect centre ss)) ss ≡ modify effect centre ss
+unfolding modify
+modify-by_few effect centre ss = by_few (nat_le (stroke_points (effect_strokes effect centre ss)) MAX_RESULT_POINTS) (effect_strokes effect centre ss) ss
 
 -- what isn't within a limit is above it
 pub above : (n most : ℕ) → (n ≤ most → IsTrue false) → most < n

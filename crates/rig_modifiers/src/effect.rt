@@ -1,6 +1,7 @@
 //! What a modifier makes of strokes.
-ghost use Rattle.std.specs.Prelude.{◌≡◌, IfOk};
+ghost use Rattle.std.specs.Prelude.{◌≡◌, IfOk, unwrap_or};
 ghost use Rattle.rig_scene.specs.Modify.{effect_strokes, offset_strokes, modify};
+ghost use Rattle.rig_modifiers.specs.Few.{if_few};
 
 use crate::append::append_changed;
 use crate::array::array_strokes;
@@ -27,11 +28,32 @@ pub fn modify(
 ) -> Result<Strokes, NoMemory>
     ensures { IfOk result (λ new. new ≡ modify effect.now centre strokes.now) }
 {
-    if is_within(strokes.as_slice(), copies(effect)) {
-        effect_strokes(alloc, effect, strokes.as_slice(), &centre)
-    } else {
-        copy_of(strokes)
+    match modify_if_few(alloc, effect, strokes, centre)? {
+        Some(new) => Ok(new),
+        None => copy_of(strokes),
     }
+}
+
+/// The same, for who has the strokes to show already: `None` comes exactly where the result would have more than
+/// [`MAX_RESULT_POINTS`](rig_scene::limits::MAX_RESULT_POINTS) points, and nothing is copied then.
+///
+/// # Errors
+///
+/// [`NoMemory`] alone.
+pub fn modify_if_few(
+    alloc: Global,
+    effect: &Effect,
+    strokes: &Strokes,
+    centre: V3,
+) -> Result<Option<Strokes>, NoMemory>
+    ensures few { IfOk result (λ new. new ≡ if_few (effect_strokes effect.now centre strokes.now)) }
+    ensures modified { IfOk result (λ new. unwrap_or new strokes.now ≡ modify effect.now centre strokes.now) }
+{
+    if !is_within(strokes.as_slice(), copies(effect)) {
+        return Ok(None);
+    }
+    let new = effect_strokes(alloc, effect, strokes.as_slice(), &centre)?;
+    Ok(Some(new))
 }
 
 fn effect_strokes(

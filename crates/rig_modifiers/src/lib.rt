@@ -16,8 +16,8 @@
 //! - A mirror adds, for x, y and z in turn where that axis is on, all strokes so far on the other side of its centre.
 //! - An array adds the strokes again, up to its count in all, the k-th time moved by k times its offset.
 //! - Each coordinate is clamped to the limits of a number after each step.
-//! - Where the result would have more than 16,384 points, the strokes stay as they are. The points are counted before any
-//!   is made.
+//! - Where the result would have more than 16,384 points, the strokes stay as they are, and [`modify_if_few`] gives none. The
+//!   points are counted before any is made.
 //! - Want of memory is the only error.
 //!
 //! Whether a modifier is on, and where a mirror's centre is, is decided elsewhere.
@@ -31,7 +31,7 @@ mod mirror;
 mod near;
 mod source;
 
-pub use effect::modify;
+pub use effect::{modify, modify_if_few};
 
 #[cfg(test)]
 mod tests;

@@ -94,6 +94,18 @@ fn array_stays_within_the_limit(rt: HostRuntime) -> Result<(), Fail> {
 }
 
 #[test]
+fn too_many_points_are_not_made(rt: HostRuntime) -> Result<(), Fail> {
+    let alloc = rt.alloc();
+    let strokes = one_stroke(alloc, &point(1, 2, 3), 8_192)?;
+    for (count, copies) in [(1, Some(1)), (2, Some(2)), (3, None)] {
+        let new = modify_if_few(alloc, &array_effect(count), &strokes, point(0, 0, 0))?;
+        let found = new.as_ref().map(|strokes| strokes.len());
+        assert_eq!(rt; found, copies, "at a count of {count}");
+    }
+    Ok(())
+}
+
+#[test]
 fn offset_scales_and_moves(rt: HostRuntime) -> Result<(), Fail> {
     let alloc = rt.alloc();
     let offset = Effect::Offset {

@@ -1,8 +1,9 @@
 //! The operations of a scene, each with its number.
-ghost use Rattle.std.specs.Prelude.{◌≡◌, ◌<◌, [], length, slice_get, Some, IfSome, IfNone, IfOk};
+ghost use Rattle.std.specs.Prelude.{◌≡◌, ℕ, ◌<◌, [], length, slice_get, Some, IfSome, IfNone, IfOk};
 ghost use Rattle.std.specs.List.{Contains};
 ghost use Rattle.indexmap.specs.IndexSet.{insert_all};
 ghost use Rattle.rig_scene.specs.Operations.{operations};
+ghost use Rattle.rig_scene.specs.Pairs.{NoneTwice};
 
 use crate::list::operation_list;
 use indexmap::IndexSet;
@@ -38,6 +39,14 @@ impl NodeTable {
         self.ops.len() as u32
     }
 
+    /// The operations in order, each once.
+    pub fn ops(&self) -> &[OpId]
+        ensures ops { result.now ≡ self.now }
+        ensures once { NoneTwice result.now }
+    {
+        self.ops.as_slice()
+    }
+
     /// The operation of a number.
     pub fn op(&self, n: u32) -> &OpId
         requires { n < length self.now }
@@ -49,6 +58,7 @@ impl NodeTable {
     /// The number of an operation: `None` exactly where the scene hasn't the operation.
     pub fn number(&self, op: &OpId) -> Option<u32>
         ensures some { IfSome result (λ n. slice_get self.now n ≡ Some op.now) }
+        ensures first { IfSome result (λ n. (k : ℕ) → k < n → slice_get self.now k ≡ Some op.now → ⊥) }
         ensures none { IfNone result (Contains self.now op.now → ⊥) }
     {
         let index = self.ops.get_index_of(op)?;

@@ -26,7 +26,7 @@ pub fn quantities(alloc: Global, scene: &Scene) -> Result<List<Quantity>, NoMemo
     ensures { IfOk result (λ list. list ≡ quantities scene.now) }
 {
     let rows = driver_rows(alloc, scene)?;
-    let mut items = Vec::new(alloc);
+    let mut items = Vec::with_capacity(alloc, scene.drivers.len())?;
     add_pencils(&mut items, scene, &rows)?;
     add_objects(&mut items, scene, &rows)?;
     Ok(List::from(items))

@@ -4,7 +4,7 @@ use Rattle.std.specs.List.{count_by}
 use Rattle.std.proofs.lemmas.List.{get_or-set_same}
 use Rattle.rig_cut.specs.NodeSets.{Begins, with_node}
 use Rattle.rig_cut.specs.Release.{is_kept_into, AreReady}
-use Rattle.rig_cut.proofs.Found.{begins_then, with_node_begins}
+use Rattle.rig_cut.specs.MemberTests.{begins_then, with_node_begins}
 use Rattle.rig_cut.proofs.Releases.{counts_kept, counts_cut, is_pending, ready_none, ready_some}
 use Rattle.rig_cut.proofs.order.release.Goals as goal
 use Rattle.rig_cut.proofs.order.release.Goals.{then-not-cuts-link+then-pending-reader-eq0, then-not-cuts-link+else-pending-reader-eq0, else-not-cuts-link}

@@ -1,5 +1,5 @@
-use Rattle.std.proofs.Common.{◌≡◌, ◌<◌, ◌∙◌, ℕ, List, length, subst, sym, ap}
-use Rattle.std.specs.Prelude.{◌^◌, IsTrue}
+use Rattle.std.proofs.Common.{◌≡◌, ◌<◌, ◌∙◌, ℕ, List, length, subst, sym, ap, arith}
+use Rattle.std.specs.Prelude.{◌^◌, IsTrue, IsPermutation}
 use Rattle.std.specs.List.{All, range_with_len}
 use Rattle.std.proofs.lemmas.List.Elements.{All-weaker}
 use Rattle.rig_cycles.specs.Order.{IsTopologicalOrder}
@@ -13,9 +13,10 @@ use Rattle.rig_scene.specs.Scene.{SceneRecord}
 use Rattle.rig_scene.specs.WellFormed.{is_scene}
 use Rattle.rig_links.specs.declared.table.In.{In}
 use Rattle.rig_links.specs.Links.{AreInsOf, kept_reads}
-use Rattle.rig_links.specs.Tables.{IsTable}
+use Rattle.rig_links.specs.Tables.{IsTable, ArePlaces}
 use Rattle.rig_links.specs.Numbers.{all_links}
 use Rattle.rig_links.specs.ByKey.{in_rows, reader_rows}
+use Rattle.rig_links.proofs.InPlace.{each_once, as_many_as}
 use Rattle.rig_links.proofs.SceneLinks.{within, acyclic, few, rows_are_ins}
 use Rattle.rig_links.proofs.Tables.{rows_length, rows_count, is_table, order_of_rows}
 use Rattle.rig_links.specs.Report.{reads_of_rows}
@@ -74,14 +75,26 @@ ordered s met rows links count ops order is l n o h =
     (subst (λ m. IsTopologicalOrder (range_with_len 0 m) (kept_of (all_links s)) order) (n ∙ ap length o)
     (subst (λ ls. IsTopologicalOrder (range_with_len 0 count) (kept_of ls) order) l h)))
 
+pub places_in-requires-clause-same : goal.places_in-requires-clause-same
+places_in-requires-clause-same c =
+    subst (λ order. IsPermutation (range_with_len 0 (length order)) order) (sym c.as_slice-6.ensures) (each_once c.len-count.result c.in_ok-cut.cut.order c.in_ok-cut.ensures.order.same_nodes)
+
+pub places_in-requires-clause-few : goal.places_in-requires-clause-few
+places_in-requires-clause-few c =
+    omega (arith, ap length c.as_slice-6.ensures, as_many_as c.len-count.result c.in_ok-cut.cut.order c.in_ok-cut.ensures.order.same_nodes)
+
 pub invariant_of-result : goal.invariant_of-result
 invariant_of-result c =
     let s = c.args.scene.now in
-    subst (λ readers. IsTable c.in_ok-ins.ins readers)
+    let order = c.in_ok-cut.cut.order in
+    let places = c.in_ok-places.places.items in
+    subst (λ readers. IsTable c.in_ok-ins.ins readers order places)
     (sym (readers_are s c.in_ok-readers.readers c.as_slice-4.result.now c.len-count.result c.args.nodes.now c.in_ok-readers.ensures (c.as_slice-4.ensures.value ∙ c.in_ok-links.ensures.links) c.len-count.ensures c.requires))
-    (subst (λ ins. IsTable ins (reader_rows (all_links s) (length (operations s))))
+    (subst (λ ins. IsTable ins (reader_rows (all_links s) (length (operations s))) order places)
     (sym (ins_are s c.in_ok-ins.ins c.as_slice-2.result.now c.len-count.result c.args.nodes.now c.in_ok-ins.ensures (c.as_slice-2.ensures.value ∙ c.in_ok-links.ensures.links) c.len-count.ensures c.requires))
-    (is_table s c.in_ok-links.ensures.met))
+    (is_table s c.in_ok-links.ensures.met order places
+    (as_many_as c.len-count.result order c.in_ok-cut.ensures.order.same_nodes ∙ c.len-count.ensures ∙ ap length c.requires)
+    (subst (λ os. ArePlaces os places) c.as_slice-6.ensures c.in_ok-places.ensures)))
 
 pub returns-clause-ins : goal.returns-clause-ins
 returns-clause-ins c =

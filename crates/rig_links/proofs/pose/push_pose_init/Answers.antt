@@ -9,5 +9,5 @@ use Rattle.rig_links.proofs.pose.push_pose_init.Goals as goal
 pub returns : goal.returns
 returns c =
     one_pushed c.push_if_there.result _ _ _ _
-    (ap (λ n. if_there c.args.scene.now n (Animation (anim.Object c.args.object))) c.number-reader.ensures ∙ sym (pose_init_links c.args.scene.now c.args.object))
+    (ap (λ n. if_there c.args.scene.now n (Animation (anim.Object c.args.object))) (sym c.requires) ∙ sym (pose_init_links c.args.scene.now c.args.object))
     c.push_if_there.ensures

@@ -1,41 +1,20 @@
-use Rattle.std.proofs.Common.{◌≡◌, ◌<◌, ◌∙◌, ap, length, map, not, subst, arith}
+use Rattle.std.proofs.Common.{◌≡◌, ◌∙◌, map, refl, subst}
 use Rattle.std.specs.Prelude.{IfOk}
-use Rattle.std.proofs.lemmas.List.{length-map}
-use Rattle.std.proofs.lemmas.List.Elements.{All-filter}
 use Rattle.rig_cut.specs.declared.links.Link.{Link}
-use Rattle.rig_cut.specs.Links.{is_cut}
-use Rattle.rig_laws.specs.Lengths.{filter_length}
 use Rattle.rig_links.specs.ByKey.{uncut}
-use Rattle.rig_links.proofs.ByKey.{keys_within, grouped_within, rows_selected}
+use Rattle.rig_links.proofs.ByKey.{grouped_within, rows_selected}
 use Rattle.rig_links.proofs.rows.reader_rows.Goals as goal
-
-pub grouped-requires-clause-in_range : goal.grouped-requires-clause-in_range
-grouped-requires-clause-in_range c =
-    keys_within (λ (l : Link). l.source) (uncut c.args.links.now) c.args.count c.as_slice-3.result.now
-    (c.as_slice-3.ensures.value ∙ c.in_ok-sources.ensures ∙ ap (map (λ (l : Link). l.source)) (c.as_slice.ensures.value ∙ c.in_ok-kept.ensures))
-    (All-filter (λ l. not (is_cut c.args.links.now l)) (λ l. l.source < c.args.count) c.args.links.now c.requires.in_range)
-
-pub grouped-requires-clause-few : goal.grouped-requires-clause-few
-grouped-requires-clause-few c =
-    omega (
-      arith,
-      ap length (c.as_slice-3.ensures.value ∙ c.in_ok-sources.ensures ∙ ap (map (λ (l : Link). l.source)) (c.as_slice.ensures.value ∙ c.in_ok-kept.ensures)),
-      length-map (uncut c.args.links.now) (λ (l : Link). l.source),
-      filter_length (λ l. not (is_cut c.args.links.now l)) c.args.links.now,
-    )
 
 pub select-requires : goal.select-requires
 select-requires c =
-    grouped_within (λ (l : Link). l.source) (λ (l : Link). l.reader) (uncut c.args.links.now) c.args.count c.as_slice-3.result.now c.as_slice-4.result.now c.in_ok-rows.rows
-    (c.as_slice-3.ensures.value ∙ c.in_ok-sources.ensures ∙ ap (map (λ (l : Link). l.source)) (c.as_slice.ensures.value ∙ c.in_ok-kept.ensures))
-    (c.as_slice-4.ensures.value ∙ c.in_ok-readers.ensures ∙ ap (map (λ (l : Link). l.reader)) (c.as_slice-2.ensures.value ∙ c.in_ok-kept.ensures))
-    c.in_ok-rows.ensures
+    let kept = uncut c.args.links.now in
+    grouped_within (λ (l : Link). l.source) (λ (l : Link). l.reader) kept c.args.count (map (λ (l : Link). l.source) kept) c.as_slice.result.now c.in_ok-rows.rows
+    refl (c.as_slice.ensures.value ∙ c.in_ok-readers.ensures) c.in_ok-rows.ensures
 
 pub returns : goal.returns
 returns c =
+    let kept = uncut c.args.links.now in
     subst (λ wanted. IfOk c.select.result (λ rows. rows ≡ wanted))
-    (rows_selected (λ (l : Link). l.source) (λ (l : Link). l.reader) (uncut c.args.links.now) c.args.count c.as_slice-3.result.now c.as_slice-4.result.now c.in_ok-rows.rows
-    (c.as_slice-3.ensures.value ∙ c.in_ok-sources.ensures ∙ ap (map (λ (l : Link). l.source)) (c.as_slice.ensures.value ∙ c.in_ok-kept.ensures))
-    (c.as_slice-4.ensures.value ∙ c.in_ok-readers.ensures ∙ ap (map (λ (l : Link). l.reader)) (c.as_slice-2.ensures.value ∙ c.in_ok-kept.ensures))
-    c.in_ok-rows.ensures)
+    (rows_selected (λ (l : Link). l.source) (λ (l : Link). l.reader) kept c.args.count (map (λ (l : Link). l.source) kept) c.as_slice.result.now c.in_ok-rows.rows
+    refl (c.as_slice.ensures.value ∙ c.in_ok-readers.ensures) c.in_ok-rows.ensures)
     c.select.ensures

@@ -1,6 +1,6 @@
 use Rattle.std.proofs.Common.{◌∙◌, ap, arith}
 use Rattle.rig_fixed.specs.Transform.{Transform, compose}
-use Rattle.rig_pose.proofs.Chains.{earlier, root_rest, child_rest}
+use Rattle.rig_pose.specs.Chains.{earlier, root_rest, child_rest}
 use Rattle.rig_pose.proofs.bone.+rest_of.Goals as goal
 
 pub rest_of-requires : goal.rest_of-requires

@@ -1,6 +1,6 @@
-use Rattle.std.proofs.Common.{◌≡◌, Some, Contains, slice_get, sym, subst}
+use Rattle.std.proofs.Common.{◌≡◌, ℕ, ◌<◌, Some, Contains, slice_get, sym, subst}
 use Rattle.std.specs.Prelude.{IfNone}
-use Rattle.rig_nodes.proofs.Numbers.{at_number, no_number}
+use Rattle.rig_nodes.proofs.Numbers.{at_number, first_number, no_number}
 use Rattle.rig_nodes.proofs.table.NodeTable.number.Goals as goal
 
 pub returns-in_err-index-clause-none : goal.returns-in_err-index-clause-none
@@ -12,3 +12,8 @@ pub returns-clause-some : goal.returns-clause-some
 returns-clause-some c =
     subst (λ ops. slice_get ops c.in_ok-index.index ≡ Some c.args.op.now) c.self.view_is
     (at_number c.self.inside.ops.keys c.args.op.now c.in_ok-index.index (sym c.in_ok-index.ensures.index))
+
+pub returns-clause-first : goal.returns-clause-first
+returns-clause-first c =
+    subst (λ ops. (k : ℕ) → k < c.in_ok-index.index → slice_get ops k ≡ Some c.args.op.now → ⊥) c.self.view_is
+    (first_number c.self.inside.ops.keys c.args.op.now c.in_ok-index.index (sym c.in_ok-index.ensures.index))

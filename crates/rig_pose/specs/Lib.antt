@@ -1,0 +1,2 @@
+-- what the proofs need
+pub mod Chains
