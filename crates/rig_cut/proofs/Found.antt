@@ -1,15 +1,15 @@
 -- What a search along kept links finds.
 use Rattle.std.specs.Prelude.{slice_index, nat_eq, Contains}
 use Rattle.std.specs.List.{list_any}
-use Rattle.std.proofs.Common.{◌≡◌, ◌⊎◌, ◌≢◌, ℕ, ◌+◌, ◌<◌, ◌≤◌, Bool, true, false, List, [], ◌∷◌, length, refl, sym, ap, ◌∙◌, subst, arith, inl, inr, ⊎_elim}
-use Rattle.std.proofs.lemmas.Bool.{cond_both, cases_eq}
+use Rattle.std.proofs.Common.{◌≡◌, ◌⊎◌, ◌≢◌, ℕ, ◌+◌, ◌<◌, ◌≤◌, Bool, true, false, not, List, [], ◌∷◌, length, refl, sym, ap, ◌∙◌, subst, arith, inl, inr, ⊎_elim}
+use Rattle.std.proofs.lemmas.Bool.{both_ways, cond_both, cases_eq, false_from_ne_true}
 use Rattle.std.proofs.lemmas.Bool.Decides.{same_from_decides, Decides-eqb}
 use Rattle.std.proofs.lemmas.List.{length-append, get_or_append_left}
 use Rattle.std.proofs.lemmas.List.Elements.{All-contains}
 use Rattle.rig_cycles.specs.Cut.{Arrow, leads}
 use Rattle.rig_cycles.specs.Walk.{Walk}
 use Rattle.rig_cycles.specs.Walk.Walk.{none, first}
-use Rattle.rig_cycles.specs.Elements.{element_first, element_later, element_cases, element_none}
+use Rattle.rig_cycles.specs.Elements.{any_from_element, element_first, element_later, element_cases, element_none}
 use Rattle.rig_cycles.specs.Leads.{walk_then, walk_keeps, leads_decides}
 use Rattle.rig_rows.specs.Rows.{indices_of}
 use Rattle.rig_cut.specs.NodeSets.{Begins, with_node}
@@ -124,3 +124,23 @@ searched_none ends cuts start = record {
   done = λ i h. absurd (omega arith);
   within = omega arith;
 }
+
+-- ---- without a walk
+
+-- where no kept link is of the end, only the end itself leads to it
+pub not_led : (ends : GraphEnds) (cuts : List Bool) (start end : ℕ) → start ≢ end
+    → ((j : ℕ) → j < length ends.sources → flag cuts j ≡ false → slice_index ends.sources j ≢ end)
+    → (reads : List (Arrow ℕ)) → IsListing ends cuts reads → leads nat_eq reads start end ≡ false
+not_led ends cuts start end other unread reads listing =
+    false_from_ne_true _ (λ t. walk_keeps reads (λ z. z ≢ end) keeps ((leads_decides nat_eq Decides-eqb reads start end).0 t) other refl)
+  where
+    keeps : (read : Arrow ℕ) → Contains reads read → read.reader ≢ end → read.source ≢ end
+    keeps read c d s =
+        let link = listing.of read c in
+        unread link.0 link.1 link.2 (link.3 ∙ s)
+
+-- no link that is kept is of a node of which no link is kept
+pub unread : (ends : GraphEnds) (cuts : List Bool) (node : ℕ) (row : List ℕ) → row ≡ indices_of node ends.sources → list_any (λ j. not (flag cuts j)) row ≡ false
+    → (j : ℕ) → j < length ends.sources → flag cuts j ≡ false → slice_index ends.sources j ≢ node
+unread ends cuts node row is cut j h kept s =
+    both_ways _ cut (any_from_element (λ k. not (flag cuts k)) row j (subst (λ l. Contains l j) (sym is) (in_row ends.sources node j h s)) (ap not kept))

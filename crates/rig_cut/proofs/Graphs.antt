@@ -15,16 +15,17 @@ IsBetween nodes l = (l.source < nodes) × (l.reader < nodes)
 pub readers_below : (nodes : ℕ) (links : List Link) → All (IsBetween nodes) links → All (λ n. n < nodes) (map (λ l. l.reader) links)
 readers_below nodes links h = All-map (λ n. n < nodes) (λ l. l.reader) links (λ k d e. (h k d e).1)
 
-sources_below : (nodes : ℕ) (links : List Link) → All (IsBetween nodes) links → All (λ n. n < nodes) (map (λ l. l.source) links)
+pub sources_below : (nodes : ℕ) (links : List Link) → All (IsBetween nodes) links → All (λ n. n < nodes) (map (λ l. l.source) links)
 sources_below nodes links h = All-map (λ n. n < nodes) (λ l. l.source) links (λ k d e. (h k d e).0)
 
-pub graph_of_links : (nodes : ℕ) (links : List Link) (sources readers : List ℕ) (rows : List (List ℕ)) → nodes < 2 ^ 32 → length links < 2 ^ 32 → All (IsBetween nodes) links → sources ≡ map (λ l. l.source) links → readers ≡ map (λ l. l.reader) links → rows ≡ grouped nodes readers → IsGraph sources readers rows
-graph_of_links nodes links sources readers rows few_nodes few_links in_range s r e =
+pub graph_of_links : (nodes : ℕ) (links : List Link) (sources readers : List ℕ) (rows outs : List (List ℕ)) → nodes < 2 ^ 32 → length links < 2 ^ 32 → All (IsBetween nodes) links → sources ≡ map (λ l. l.source) links → readers ≡ map (λ l. l.reader) links → rows ≡ grouped nodes readers → outs ≡ grouped nodes sources → IsGraph sources readers rows outs
+graph_of_links nodes links sources readers rows outs few_nodes few_links in_range s r e o =
     let count = ap length e ∙ length-grouped nodes readers in
     let links_sources = ap length s ∙ length-map links (λ l. l.source) in
     let links_readers = ap length r ∙ length-map links (λ l. l.reader) in
     record {
       rows_are = e ∙ ap (λ n. grouped n readers) (sym count);
+      outs_are = o ∙ ap (λ n. grouped n sources) (sym count);
       same_length = links_readers ∙ sym links_sources;
       sources_below = subst (λ l. All (λ n. n < length rows) l) (sym s)
           (subst (λ m. All (λ n. n < m) (map (λ l. l.source) links)) (sym count) (sources_below nodes links in_range));

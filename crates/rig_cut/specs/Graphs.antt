@@ -14,9 +14,10 @@ pub record GraphEnds : Type 0 where
 abbrev pub ends_of_links : ℕ → List Link → GraphEnds
 ends_of_links nodes links = record { nodes = nodes; sources = map (λ l. l.source) links; readers = map (λ l. l.reader) links }
 
--- all ends are nodes, and the rows are the links by their readers
-pub record IsGraph (sources readers : List ℕ) (rows : List (List ℕ)) : Type 0 where
+-- all ends are nodes, and the rows are the links by their readers and by their sources
+pub record IsGraph (sources readers : List ℕ) (rows outs : List (List ℕ)) : Type 0 where
   pub rows_are : rows ≡ grouped (length rows) readers
+  pub outs_are : outs ≡ grouped (length rows) sources
   pub same_length : length readers ≡ length sources
   pub sources_below : All (λ n. n < length rows) sources
   pub readers_below : All (λ n. n < length rows) readers

@@ -1,4 +1,4 @@
-//! The ends of links, and the links into each node.
+//! The ends of links, and the links into each node and out of it.
 ghost use Rattle.std.specs.Prelude.{◌≡◌, ℕ, ◌<◌, ◌≤◌, ◌^◌, length, map, slice_index, IfOk};
 ghost use Rattle.std.specs.List.{All};
 ghost use Rattle.rig_rows.specs.Rows.{indices_of};
@@ -10,12 +10,14 @@ use rig_rows::Rows;
 use std::alloc::{AllocError, Global};
 use std::marker::Model;
 
-/// The ends of links, by the indices of the links, and for each node the links that it is the reader of.
+/// The ends of links, by the indices of the links, and for each node the links that it is the reader of and those that it is
+/// the source of.
 #[derive(Drop)]
 pub struct Graph {
     sources: Vec<u32>,
     readers: Vec<u32>,
     in_links: Rows<u32>,
+    out_links: Rows<u32>,
 }
 
 impl Model for Graph {
@@ -26,7 +28,7 @@ impl Model for Graph {
 
     ghost view = { λ g. record { nodes = length g.in_links; sources = g.sources.items; readers = g.readers.items } };
 
-    ghost invariant = { λ g. IsGraph g.sources.items g.readers.items g.in_links };
+    ghost invariant = { λ g. IsGraph g.sources.items g.readers.items g.in_links g.out_links };
 }
 
 fn sources(alloc: Global, links: &[Link]) -> Result<Vec<u32>, AllocError>
@@ -52,18 +54,22 @@ impl Graph {
         requires few { length links.now < 2 ^ 32 }
         ensures { IfOk result (λ g. g ≡ ends_of_links nodes links.now) }
     {
+        let sources = sources(alloc, links)?;
         let readers = readers(alloc, links)?;
         let in_links = Rows::grouped(alloc, nodes, &readers)?;
+        let out_links = Rows::grouped(alloc, nodes, &sources)?;
         Ok(Graph {
-            sources: sources(alloc, links)?,
+            sources,
             readers,
             in_links,
+            out_links,
         })
     }
 
-    /// The number of nodes.
+    /// The number of nodes, which each source is below.
     pub fn nodes(&self) -> u32
-        ensures { result ≡ self.now.nodes }
+        ensures nodes { result ≡ self.now.nodes }
+        ensures sources { All (λ n. n < self.now.nodes) self.now.sources }
     {
         self.in_links.len() as u32
     }
@@ -95,5 +101,14 @@ impl Graph {
         ensures len { length self.now.readers ≡ length self.now.sources }
     {
         self.in_links.get(node as usize)
+    }
+
+    /// The links that a node is the source of.
+    pub fn out_links(&self, node: u32) -> &[u32]
+        requires { node < self.now.nodes }
+        ensures links { result.now ≡ indices_of node self.now.sources }
+        ensures below { All (λ j. j < length self.now.sources) result.now }
+    {
+        self.out_links.get(node as usize)
     }
 }

@@ -30,7 +30,8 @@
 //! - Only [`cut`] and [`Plan::push`] allocate. Their only error is want of memory.
 //!
 //! Nothing here knows what a node is or runs an operation, and a cut isn't kept up to date: it is made anew from all
-//! links. A test walks along the kept links that its source leads to, so many references in long chains are slow.
+//! links. A test makes no walk where its reader is no source of a kept link so far, as then nothing else leads to the reader. Any
+//! other test walks along the kept links that its source leads to, so many such references in long chains are slow.
 #![tactic(auto)]
 
 mod cuts;

@@ -4,7 +4,6 @@ ghost use Rattle.std.specs.List.{All, count_by, range_with_len};
 ghost use Rattle.rig_cycles.specs.Cut.{Arrow};
 ghost use Rattle.rig_cycles.specs.Walk.{IsAcyclic};
 ghost use Rattle.rig_cycles.specs.Order.{IsTopologicalOrder};
-ghost use Rattle.rig_rows.specs.Rows.{grouped};
 ghost use Rattle.rig_cut.specs.NodeSets.{Begins};
 ghost use Rattle.rig_cut.specs.Graphs.{IsListing};
 ghost use Rattle.rig_cut.specs.Release.{is_kept_into, pending_after, AreReady, IsReleased};
@@ -12,7 +11,6 @@ ghost use Rattle.rig_cut.specs.Release.{is_kept_into, pending_after, AreReady, I
 use crate::graph::Graph;
 use crate::nodes::NodeSet;
 use rig_io::{List, NoMemory};
-use rig_rows::Rows;
 use std::alloc::{AllocError, Global};
 
 fn zeros(alloc: Global, count: usize) -> Result<Vec<u32>, AllocError>
@@ -81,17 +79,10 @@ fn release(order: &mut NodeSet, pending: &mut [u32], graph: &Graph, cuts: &[bool
 }
 
 /// Goes through the nodes in order, and adds each node for which nothing is pending any more.
-fn release_all(
-    order: &mut NodeSet,
-    pending: &mut [u32],
-    graph: &Graph,
-    cuts: &[bool],
-    out_links: &Rows<u32>,
-)
+fn release_all(order: &mut NodeSet, pending: &mut [u32], graph: &Graph, cuts: &[bool])
     requires same_nodes { order.old.count ≡ graph.now.nodes }
     requires all_nodes { length pending.old ≡ graph.now.nodes }
     requires all_links { length cuts.now ≡ length graph.now.sources }
-    requires out_links { out_links.now ≡ grouped graph.now.nodes graph.now.sources }
     requires begun { IsReleased graph.now cuts.now pending.old order.old.members 0 }
     ensures count { order.new.count ≡ order.old.count }
     ensures released { IsReleased graph.now cuts.now pending.new order.new.members (length order.new.members) }
@@ -99,7 +90,7 @@ fn release_all(
     let mut next = 0;
     while next < order.len() {
         let node = order.get(next);
-        release(order, pending, graph, cuts, out_links.get(node as usize));
+        release(order, pending, graph, cuts, graph.out_links(node));
         next += 1;
     }
 }
@@ -114,10 +105,9 @@ pub fn topological_order(alloc: Global, graph: &Graph, cuts: &[bool]) -> Result<
     ensures { IfOk result (λ order. (reads : ListOf (Arrow ℕ)) → IsListing graph.now cuts.now reads → IsAcyclic reads →
         IsTopologicalOrder (range_with_len 0 graph.now.nodes) reads order) }
 {
-    let out_links = Rows::grouped(alloc, graph.nodes(), graph.sources())?;
     let mut pending = pending_counts(alloc, graph, cuts)?;
     let mut order = NodeSet::new(alloc, graph.nodes())?;
     add_ready(&mut order, &pending);
-    release_all(&mut order, pending.as_mut_slice(), graph, cuts, &out_links);
+    release_all(&mut order, pending.as_mut_slice(), graph, cuts);
     Ok(order.into_list())
 }

@@ -1,8 +1,8 @@
 //! Walks along kept links, each from its reader to its source.
-ghost use Rattle.std.specs.Prelude.{◌≡◌, ℕ, ◌<◌, List, length, nat_eq};
-ghost use Rattle.std.specs.List.{All};
+ghost use Rattle.std.specs.Prelude.{◌≡◌, ℕ, ◌<◌, List, length, nat_eq, not};
+ghost use Rattle.std.specs.List.{All, list_any};
 ghost use Rattle.rig_cycles.specs.Cut.{Arrow, leads};
-ghost use Rattle.rig_cut.specs.Graphs.{IsListing};
+ghost use Rattle.rig_cut.specs.Graphs.{IsListing, flag};
 ghost use Rattle.rig_cut.specs.Search.{with_sources};
 
 use crate::graph::Graph;
@@ -24,8 +24,21 @@ fn add_sources(found: &mut NodeSet, graph: &Graph, cuts: &[bool], links: &[u32])
     }
 }
 
+/// Whether one of these links isn't cut.
+fn is_any_kept(cuts: &[bool], links: &[u32]) -> bool
+    requires { All (λ j. j < length cuts.now) links.now }
+    ensures { result ≡ list_any (λ j. not (flag cuts.now j)) links.now }
+{
+    for link in links {
+        if !cuts[*link as usize] {
+            return true;
+        }
+    }
+    false
+}
+
 /// Whether a walk along links that aren't cut leads from one node to another. What was found before is cleared.
-pub fn is_led(found: &mut NodeSet, graph: &Graph, cuts: &[bool], start: u32, end: u32) -> bool
+fn is_reached(found: &mut NodeSet, graph: &Graph, cuts: &[bool], start: u32, end: u32) -> bool
     requires same_nodes { found.old.count ≡ graph.now.nodes }
     requires all_links { length cuts.now ≡ length graph.now.sources }
     requires start { start < graph.now.nodes }
@@ -42,4 +55,22 @@ pub fn is_led(found: &mut NodeSet, graph: &Graph, cuts: &[bool], start: u32, end
         next += 1;
     }
     found.contains(end)
+}
+
+/// Whether links that aren't cut lead from one node to another. Where the other is the source of none of them, nothing else leads
+/// to it, and no walk is made.
+pub fn is_led(found: &mut NodeSet, graph: &Graph, cuts: &[bool], start: u32, end: u32) -> bool
+    requires same_nodes { found.old.count ≡ graph.now.nodes }
+    requires all_links { length cuts.now ≡ length graph.now.sources }
+    requires start { start < graph.now.nodes }
+    requires end { end < graph.now.nodes }
+    ensures count { found.new.count ≡ found.old.count }
+    ensures leads { (reads : List (Arrow ℕ)) → IsListing graph.now cuts.now reads →
+        result ≡ leads nat_eq reads start end }
+{
+    if start == end || is_any_kept(cuts, graph.out_links(end)) {
+        is_reached(found, graph, cuts, start, end)
+    } else {
+        false
+    }
 }

@@ -22,7 +22,7 @@ use Rattle.rig_flush.specs.ByNumber.{AreKept, IsNext}
 use Rattle.rig_flush.specs.Counted.{raised_by}
 use Rattle.rig_flush.specs.Shown.{output_of}
 use Rattle.rig_flush.specs.Tables.{AreTablesOf}
-use Rattle.rig_flush.proofs.Options.{replaced, not_replaced, at_index}
+use Rattle.rig_flush.specs.Options.{replaced, not_replaced, at_index}
 
 -- a count that rose once more
 pub raised_once_more : (i start before after : ℕ) → before ≡ raised_by i start → after ≡ raised before → after ≡ raised_by (i + 1) start

@@ -1,5 +1,3 @@
-pub mod Options
-pub mod Inputs
 pub mod Evaluated
 pub mod ShownOf
 mod SameByEq

@@ -23,9 +23,10 @@ use Rattle.rig_scene.specs.Pairs.{NoneTwice, All-flat_map, AllPairs-filter}
 use Rattle.rig_links.specs.declared.table.In.{In}
 use Rattle.rig_links.specs.Links.{Links, kept_reads}
 use Rattle.rig_flush.specs.Reach.{is_reached}
+use Rattle.rig_flush.specs.ReachedInOrder.{order_once}
 use Rattle.rig_flush.specs.Search.{with_nodes, row_of, IsPlannable}
 use Rattle.rig_flush.specs.Tables.{AreTables}
-use Rattle.rig_flush.proofs.Sorted.{length-order, order_once, order_within}
+use Rattle.rig_flush.proofs.Sorted.{length-order, order_within}
 use Rattle.rig_flush.proofs.Spread.{with_nodes_has, with_nodes_of}
 
 -- ---- a filter up to one of its elements

@@ -1,32 +1,27 @@
 -- What is kept of the operations that a frame shows.
-use Rattle.std.proofs.Common.{◌≡◌, ℕ, ◌<◌, ◌≤◌, ◌^◌, List, [], ◌∷◌, ◌++◌, length, map, Option, Some, None, refl, sym, ap, ◌∙◌, subst, arith}
+use Rattle.std.proofs.Common.{◌≡◌, ℕ, ◌<◌, ◌≤◌, ◌^◌, List, length, map, Option, Some, None, refl, sym, ap, ◌∙◌, subst, arith}
 use Rattle.std.specs.Prelude.{slice_get, option_map, option_and_then, IsTrue, IsSome, ℤ}
-use Rattle.std.specs.List.{All, Contains, flat_map, range_with_len, enumerate_from}
-use Rattle.std.proofs.lemmas.List.Elements.{All-cons, All-contains, Contains-append_left, Contains-append_right}
+use Rattle.std.specs.List.{All, Contains}
+use Rattle.std.proofs.lemmas.List.Elements.{All-contains}
 use Rattle.std.proofs.lemmas.Option.{slice_get-map}
 use Rattle.std.proofs.lemmas.Simd.{map-map}
 use Rattle.rig_laws.specs.Output.{Output}
-use Rattle.rig_cycles.specs.Elements.{element_first, element_later}
-use Rattle.rig_laws.specs.Lists.{All-elements, Contains-flat_map}
-use Rattle.rig_scene.specs.declared.id.AnimId.TheVariants as anim
-use Rattle.rig_scene.specs.declared.id.ObjectId.{ObjectId}
 use Rattle.rig_scene.specs.declared.limits.TheConstants.{MAX_BONES}
 use Rattle.rig_scene.specs.declared.modifier.Mode.{Mode}
 use Rattle.rig_scene.specs.declared.object.Kind.{Kind}
 use Rattle.rig_scene.specs.declared.object.Kind.TheVariants.{Empty, Armature, Pencil}
 use Rattle.rig_scene.specs.declared.object.Object.{Object}
 use Rattle.rig_scene.specs.declared.operation.OpId.{OpId}
-use Rattle.rig_scene.specs.declared.operation.OpId.TheVariants.{Time, Local, World, PoseInit, Bone, PoseDone, Geometry, ModifierOp, GeometryDone}
 use Rattle.rig_scene.specs.Facts.{ObjectFacts, ArmatureFacts}
 use Rattle.rig_scene.specs.FactsHold.{scene_facts}
 use Rattle.rig_scene.specs.Found.{Contains-slice_get}
-use Rattle.rig_scene.specs.Operations.{animation_of, driver_operations, pencil_operations, kind_operations, object_operations, operations}
-use Rattle.rig_scene.specs.Pairs.{All-flat_map, All-of_map}
+use Rattle.rig_scene.specs.Operations.{operations}
+use Rattle.rig_scene.specs.Pairs.{All-of_map}
 use Rattle.rig_scene.specs.Scene.{SceneRecord}
 use Rattle.rig_scene.specs.WellFormed.{is_scene, pose_count}
 use Rattle.rig_flush.specs.ByNumber.{kept_at}
-use Rattle.rig_flush.specs.Shown.{shown_of_kind, shown_operations, output_of, shown}
-use Rattle.rig_flush.proofs.Options.{same_values, All-there}
+use Rattle.rig_flush.specs.Options.{same_values, All-there}
+use Rattle.rig_flush.specs.Shown.{shown_operations, output_of, shown}
 
 -- ---- what is kept at the numbers that are shown
 
@@ -60,49 +55,21 @@ module _ (s : SceneRecord) (mode : Mode) (frame : ℤ) (kept : List (Option Outp
   unfolding shown
   outs_shown outs is = same_values outs (map (output_of s mode frame) (shown_operations s)) (is ∙ are_kept)
 
--- ---- the operations that are shown
-
--- they are operations of the object's kind
-shown_in_kind : (o : ObjectId) (k : Kind) (op : OpId) → Contains (shown_of_kind o k) op → Contains (kind_operations o k) op
-shown_in_kind o Empty op h = h
-shown_in_kind o (Armature armature pose) op h =
-    element_later (PoseInit o) (map (Bone o) (range_with_len 0 (length pose)) ++ PoseDone o ∷ []) op
-    (Contains-append_left (map (Bone o) (range_with_len 0 (length pose))) (PoseDone o ∷ []) op h)
-shown_in_kind o (Pencil pencil modifiers) op h =
-    element_later (Geometry o) (map (ModifierOp o) (range_with_len 1 (length modifiers)) ++ GeometryDone o ∷ []) op
-    (Contains-append_right (map (ModifierOp o) (range_with_len 1 (length modifiers))) (GeometryDone o ∷ []) op h)
+-- ---- the bones
 
 -- an object with few enough bones that a `u32` counts them
 abbrev pub FewBones : Object → Type 0
 FewBones o = pose_count o.kind < 2 ^ 32
 
-module _ (s : SceneRecord) where
-  in_object : (o : Object) → Contains s.objects o → (op : OpId) → Contains (World o.id ∷ kind_operations o.id o.kind) op → Contains (operations s) op
-  in_object o e op h =
-      element_later Time _ op
-      (Contains-append_right (flat_map (λ e. pencil_operations s e.0 e.1) (enumerate_from 0 s.pencils)) (flat_map (object_operations s) s.objects) op
-      (Contains-flat_map (object_operations s) s.objects o op e
-      (Contains-append_right (animation_of s (anim.Object o.id) ++ driver_operations s (anim.Object o.id)) (Local o.id ∷ World o.id ∷ kind_operations o.id o.kind) op
-      (element_later (Local o.id) (World o.id ∷ kind_operations o.id o.kind) op h))))
+module _ (s : SceneRecord) (met : IsTrue (is_scene s)) where
+  few_bones_of : (o : Object) → ObjectFacts s o → (k : Kind) → o.kind ≡ k → pose_count k < 2 ^ 32
+  few_bones_of o facts Empty e = omega arith
+  few_bones_of o facts (Armature index pose) e =
+      let kind = facts.armature index pose e in
+      let count : length kind.armature.bones ≤ MAX_BONES = (All-contains ArmatureFacts s.armatures kind.armature (scene_facts s met).armatures.each (Contains-slice_get s.armatures index kind.armature kind.is_armature)).count in
+      let poses : length pose ≡ length kind.armature.bones = kind.poses in
+      omega arith
+  few_bones_of o facts (Pencil index modifiers) e = omega arith
 
-  object_shown : (o : Object) → Contains s.objects o → All (Contains (operations s)) (World o.id ∷ shown_of_kind o.id o.kind)
-  object_shown o e =
-      All-cons (Contains (operations s)) (World o.id) (shown_of_kind o.id o.kind) (in_object o e (World o.id) (element_first (World o.id) (kind_operations o.id o.kind)))
-      (All-elements (Contains (operations s)) (shown_of_kind o.id o.kind)
-      (λ op h. in_object o e op (element_later (World o.id) (kind_operations o.id o.kind) op (shown_in_kind o.id o.kind op h))))
-
-  pub all_shown : All (Contains (operations s)) (shown_operations s)
-  all_shown = All-flat_map (Contains (operations s)) (λ o. World o.id ∷ shown_of_kind o.id o.kind) s.objects (All-elements _ s.objects object_shown)
-
-  module _ (met : IsTrue (is_scene s)) where
-    few_bones_of : (o : Object) → ObjectFacts s o → (k : Kind) → o.kind ≡ k → pose_count k < 2 ^ 32
-    few_bones_of o facts Empty e = omega arith
-    few_bones_of o facts (Armature index pose) e =
-        let kind = facts.armature index pose e in
-        let count : length kind.armature.bones ≤ MAX_BONES = (All-contains ArmatureFacts s.armatures kind.armature (scene_facts s met).armatures.each (Contains-slice_get s.armatures index kind.armature kind.is_armature)).count in
-        let poses : length pose ≡ length kind.armature.bones = kind.poses in
-        omega arith
-    few_bones_of o facts (Pencil index modifiers) e = omega arith
-
-    pub few_bones : (o : Object) → Contains s.objects o → FewBones o
-    few_bones o e = few_bones_of o (All-contains (ObjectFacts s) s.objects o (scene_facts s met).objects.each e) o.kind refl
+  pub few_bones : (o : Object) → Contains s.objects o → FewBones o
+  few_bones o e = few_bones_of o (All-contains (ObjectFacts s) s.objects o (scene_facts s met).objects.each e) o.kind refl

@@ -32,11 +32,11 @@ use Rattle.rig_flush.specs.Reach.{is_reached}
 use Rattle.rig_flush.specs.Tables.{AreTablesOf, numbers_of, reached_numbers, places_in, plan_of, operations_at}
 
 -- an element has an index
-index_of : (ops : List OpId) (op : OpId) → Contains ops op → (n : ℕ) × (slice_get ops n ≡ Some op)
+pub index_of : (ops : List OpId) (op : OpId) → Contains ops op → (n : ℕ) × (slice_get ops n ≡ Some op)
 index_of ops op e = (e.0, slice_get-get_or ops e.0 op e.1 ∙ ap Some e.2)
 
 -- and one alone, where nothing stands twice
-one_index : (ops : List OpId) → NoneTwice ops → (op : OpId) (n m : ℕ) → slice_get ops n ≡ Some op → slice_get ops m ≡ Some op → n ≡ m
+pub one_index : (ops : List OpId) → NoneTwice ops → (op : OpId) (n m : ℕ) → slice_get ops n ≡ Some op → slice_get ops m ≡ Some op → n ≡ m
 one_index ops once op n m at there =
     let same : get_or ops n op ≡ get_or ops m op = get_or_from_slice_get ops n op op at ∙ sym (get_or_from_slice_get ops m op op there) in
     ⊎_elim (λ s. s) (λ (d : n ≢ m). ⊎_elim
@@ -45,20 +45,20 @@ one_index ops once op n m at there =
     (cases_lt n m)) (cases_eq n m)
 
 -- reads between numbers, and between the operations of these
-abbrev read_of : ℕ → ℕ → Arrow ℕ
+abbrev pub read_of : ℕ → ℕ → Arrow ℕ
 read_of reader source = record { reader = reader; source = source; is_reference = false }
 
-abbrev link_of : OpId → OpId → Arrow OpId
+abbrev pub link_of : OpId → OpId → Arrow OpId
 link_of reader source = record { reader = reader; source = source; is_reference = false }
 
-module _ (s : SceneRecord) (ops : List OpId) (links : Links) (tables : AreTablesOf s ops links) (once : NoneTwice ops) where
+module _ (s : SceneRecord) (ops : List OpId) (links : Links) (tables : AreTablesOf s ops links) where
   abbrev rows : List (List In)
   rows = links.ins
 
-  is_operation : (n : ℕ) (op : OpId) → slice_get ops n ≡ Some op → slice_get (operations s) n ≡ Some op
+  pub is_operation : (n : ℕ) (op : OpId) → slice_get ops n ≡ Some op → slice_get (operations s) n ≡ Some op
   is_operation n op at = subst (λ l. slice_get l n ≡ Some op) tables.same at
 
-  is_listed : (n : ℕ) (op : OpId) → slice_get (operations s) n ≡ Some op → slice_get ops n ≡ Some op
+  pub is_listed : (n : ℕ) (op : OpId) → slice_get (operations s) n ≡ Some op → slice_get ops n ≡ Some op
   is_listed n op at = subst (λ l. slice_get l n ≡ Some op) (sym tables.same) at
 
   -- the row of an operation's number
@@ -105,11 +105,11 @@ module _ (s : SceneRecord) (ops : List OpId) (links : Links) (tables : AreTables
 
   -- ---- and the other way round
 
-  abbrev ByNumber : Arrow OpId → Type 0
+  abbrev pub ByNumber : Arrow OpId → Type 0
   ByNumber link =
       (reader : ℕ) × (source : ℕ) × (slice_get ops reader ≡ Some link.reader) × (slice_get ops source ≡ Some link.source) × Contains (kept_reads rows) (read_of reader source)
 
-  read_by_number : (link : Arrow OpId) → Contains (kept_links s) link → ByNumber link
+  pub read_by_number : (link : Arrow OpId) → Contains (kept_links s) link → ByNumber link
   read_by_number link c =
       let e = element_of_flat_map by_operation (operations s) link c in
       let i = element_of_map (λ (i : InLink). link_of e.0 i.op) (filter (λ i. not i.cut) (ins s e.0)) link e.2 in
@@ -132,64 +132,65 @@ module _ (s : SceneRecord) (ops : List OpId) (links : Links) (tables : AreTables
 
   -- ---- walks
 
-  walk_by_operation : {n t : ℕ} → Walk (kept_reads rows) n t → (op : OpId) → slice_get ops n ≡ Some op → (tag : OpId) × (slice_get ops t ≡ Some tag) × Walk (kept_links s) op tag
-  walk_by_operation none op at = (op, at, none)
-  walk_by_operation (first read e w) op at =
-      let b = read_by_operation read e in
-      let later = walk_by_operation w b.1 b.3 in
-      (later.0, later.1, subst (λ z. Walk (kept_links s) z later.0) (same_Some b.0 op (sym b.2 ∙ at)) (first (link_of b.0 b.1) b.4 later.2))
+  module _ (once : NoneTwice ops) where
+    walk_by_operation : {n t : ℕ} → Walk (kept_reads rows) n t → (op : OpId) → slice_get ops n ≡ Some op → (tag : OpId) × (slice_get ops t ≡ Some tag) × Walk (kept_links s) op tag
+    walk_by_operation none op at = (op, at, none)
+    walk_by_operation (first read e w) op at =
+        let b = read_by_operation read e in
+        let later = walk_by_operation w b.1 b.3 in
+        (later.0, later.1, subst (λ z. Walk (kept_links s) z later.0) (same_Some b.0 op (sym b.2 ∙ at)) (first (link_of b.0 b.1) b.4 later.2))
 
-  walk_by_number : {op tag : OpId} → Walk (kept_links s) op tag → (n : ℕ) → slice_get ops n ≡ Some op → (t : ℕ) × (slice_get ops t ≡ Some tag) × Walk (kept_reads rows) n t
-  walk_by_number none n at = (n, at, none)
-  walk_by_number (first link e w) n at =
-      let b = read_by_number link e in
-      let later = walk_by_number w b.1 b.3 in
-      (later.0, later.1, subst (λ z. Walk (kept_reads rows) z later.0) (one_index ops once link.reader b.0 n b.2 at) (first (read_of b.0 b.1) b.4 later.2))
+    walk_by_number : {op tag : OpId} → Walk (kept_links s) op tag → (n : ℕ) → slice_get ops n ≡ Some op → (t : ℕ) × (slice_get ops t ≡ Some tag) × Walk (kept_reads rows) n t
+    walk_by_number none n at = (n, at, none)
+    walk_by_number (first link e w) n at =
+        let b = read_by_number link e in
+        let later = walk_by_number w b.1 b.3 in
+        (later.0, later.1, subst (λ z. Walk (kept_reads rows) z later.0) (one_index ops once link.reader b.0 n b.2 at) (first (read_of b.0 b.1) b.4 later.2))
 
-  -- ---- what is reached
+    -- ---- what is reached
 
-  module _ (tags : List OpId) where
-    -- the numbers are those of tags
-    tag_of : (t : ℕ) → Contains (numbers_of ops tags) t → (tag : OpId) × Contains tags tag × (slice_get ops t ≡ Some tag)
-    tag_of t c =
-        let e = element_of_flat_map (λ tag. option_map_or (λ n. n ∷ []) (position (same_operation tag) ops) []) tags t c in
-        (e.0, e.1, at e.0 (position (same_operation e.0) ops) refl e.2)
-      where
-        at : (tag : OpId) (o : Option ℕ) → position (same_operation tag) ops ≡ o → Contains (option_map_or (λ n. n ∷ []) o []) t → slice_get ops t ≡ Some tag
-        at tag None e c = absurd (element_none t c)
-        at tag (Some n) e c = ⊎_elim
-            (λ (same : n ≡ t).
-            let found = position-Some (same_operation tag) ops n tag e in
-            ap (slice_get ops) (sym same) ∙ slice_get-get_or ops n tag found.0 ∙ ap Some (sym ((same_operation-Decides tag (get_or ops n tag)).0 found.1)))
-            (λ d. absurd (element_none t d))
-            (element_cases n [] t c)
+    module _ (tags : List OpId) where
+      -- the numbers are those of tags
+      tag_of : (t : ℕ) → Contains (numbers_of ops tags) t → (tag : OpId) × Contains tags tag × (slice_get ops t ≡ Some tag)
+      tag_of t c =
+          let e = element_of_flat_map (λ tag. option_map_or (λ n. n ∷ []) (position (same_operation tag) ops) []) tags t c in
+          (e.0, e.1, at e.0 (position (same_operation e.0) ops) refl e.2)
+        where
+          at : (tag : OpId) (o : Option ℕ) → position (same_operation tag) ops ≡ o → Contains (option_map_or (λ n. n ∷ []) o []) t → slice_get ops t ≡ Some tag
+          at tag None e c = absurd (element_none t c)
+          at tag (Some n) e c = ⊎_elim
+              (λ (same : n ≡ t).
+              let found = position-Some (same_operation tag) ops n tag e in
+              ap (slice_get ops) (sym same) ∙ slice_get-get_or ops n tag found.0 ∙ ap Some (sym ((same_operation-Decides tag (get_or ops n tag)).0 found.1)))
+              (λ d. absurd (element_none t d))
+              (element_cases n [] t c)
 
-    number_of_tag : (t : ℕ) (tag : OpId) → Contains tags tag → slice_get ops t ≡ Some tag → Contains (numbers_of ops tags) t
-    number_of_tag t tag c at =
-        let within = slice_get_within ops t tag at in
-        let here = get_or_from_slice_get ops t tag tag at in
-        let is : position (same_operation tag) ops ≡ Some t =
-        position_at (same_operation tag) ops t tag within ((same_operation-Decides tag (get_or ops t tag)).1 (sym here))
-        (λ k h. false_from_ne_true (same_operation tag (get_or ops k tag)) (λ e. once k t tag h within (sym ((same_operation-Decides tag (get_or ops k tag)).0 e) ∙ sym here))) in
-        Contains-flat_map (λ tag. option_map_or (λ n. n ∷ []) (position (same_operation tag) ops) []) tags tag t c
-        (subst (λ o. Contains (option_map_or (λ n. n ∷ []) o []) t) (sym is) (element_first t []))
+      number_of_tag : (t : ℕ) (tag : OpId) → Contains tags tag → slice_get ops t ≡ Some tag → Contains (numbers_of ops tags) t
+      number_of_tag t tag c at =
+          let within = slice_get_within ops t tag at in
+          let here = get_or_from_slice_get ops t tag tag at in
+          let is : position (same_operation tag) ops ≡ Some t =
+          position_at (same_operation tag) ops t tag within ((same_operation-Decides tag (get_or ops t tag)).1 (sym here))
+          (λ k h. false_from_ne_true (same_operation tag (get_or ops k tag)) (λ e. once k t tag h within (sym ((same_operation-Decides tag (get_or ops k tag)).0 e) ∙ sym here))) in
+          Contains-flat_map (λ tag. option_map_or (λ n. n ∷ []) (position (same_operation tag) ops) []) tags tag t c
+          (subst (λ o. Contains (option_map_or (λ n. n ∷ []) o []) t) (sym is) (element_first t []))
 
-    pub reached_alike : (n : ℕ) (op : OpId) → slice_get ops n ≡ Some op → is_reached nat_eq (kept_reads rows) (numbers_of ops tags) n ≡ is_reached same_operation (kept_links s) tags op
-    reached_alike n op at = same_from_decides {P = (tag : OpId) × Contains tags tag × Walk (kept_links s) op tag} _ _ (
-      λ r.
-          let t = element_from_any (leads nat_eq (kept_reads rows) n) (numbers_of ops tags) r in
-          let tag = tag_of t.0 t.1 in
-          let w = walk_by_operation ((leads_decides nat_eq Decides-eqb (kept_reads rows) n t.0).0 t.2) op at in
-          (tag.0, tag.1, subst (λ z. Walk (kept_links s) op z) (same_Some w.0 tag.0 (sym w.1 ∙ tag.2)) w.2),
-      λ p.
-          let w = walk_by_number p.2 n at in
-          any_from_element (leads nat_eq (kept_reads rows) n) (numbers_of ops tags) w.0 (number_of_tag w.0 p.0 p.1 w.1) ((leads_decides nat_eq Decides-eqb (kept_reads rows) n w.0).1 w.2),
-    ) (
-      λ r.
-          let t = element_from_any (leads same_operation (kept_links s) op) tags r in
-          (t.0, t.1, (leads_decides same_operation same_operation-Decides (kept_links s) op t.0).0 t.2),
-      λ p. any_from_element (leads same_operation (kept_links s) op) tags p.0 p.1 ((leads_decides same_operation same_operation-Decides (kept_links s) op p.0).1 p.2),
-    )
+      pub reached_alike : (n : ℕ) (op : OpId) → slice_get ops n ≡ Some op → is_reached nat_eq (kept_reads rows) (numbers_of ops tags) n ≡ is_reached same_operation (kept_links s) tags op
+      reached_alike n op at = same_from_decides {P = (tag : OpId) × Contains tags tag × Walk (kept_links s) op tag} _ _ (
+        λ r.
+            let t = element_from_any (leads nat_eq (kept_reads rows) n) (numbers_of ops tags) r in
+            let tag = tag_of t.0 t.1 in
+            let w = walk_by_operation ((leads_decides nat_eq Decides-eqb (kept_reads rows) n t.0).0 t.2) op at in
+            (tag.0, tag.1, subst (λ z. Walk (kept_links s) op z) (same_Some w.0 tag.0 (sym w.1 ∙ tag.2)) w.2),
+        λ p.
+            let w = walk_by_number p.2 n at in
+            any_from_element (leads nat_eq (kept_reads rows) n) (numbers_of ops tags) w.0 (number_of_tag w.0 p.0 p.1 w.1) ((leads_decides nat_eq Decides-eqb (kept_reads rows) n w.0).1 w.2),
+      ) (
+        λ r.
+            let t = element_from_any (leads same_operation (kept_links s) op) tags r in
+            (t.0, t.1, (leads_decides same_operation same_operation-Decides (kept_links s) op t.0).0 t.2),
+        λ p. any_from_element (leads same_operation (kept_links s) op) tags p.0 p.1 ((leads_decides same_operation same_operation-Decides (kept_links s) op p.0).1 p.2),
+      )
 
 -- a filter of numbers, and of their operations
 kept_operations : (ops : List OpId) (p : ℕ → Bool) (q : OpId → Bool) (numbers : List ℕ) → All (λ n. n < length ops) numbers → ((n : ℕ) (op : OpId) → slice_get ops n ≡ Some op → p n ≡ q op) → operations_at ops (filter p numbers) ≡ filter q (operations_at ops numbers)

@@ -23,24 +23,23 @@
 //! - [`scratch`] runs every operation once, and shows of each object its world transform, its bones and its finished geometry. The values
 //!   are those of the definitions, with no graph.
 //! - What one graph does at each event, and what it keeps between two frames, is written down in `specs/Graph.antt`.
-//! - [`flush`] takes time by what it reaches, but for one list of numbers that is cleared at its start. Want of memory is the only error
+//! - [`flush`] takes time by what it reaches, but for one list of numbers that is made at its start. [`flush_into`] has the caller keep that. Want of memory is the only error
 //!   of all of them.
 //!
 //! Which operations an edit touches is said by `rig_touch`, and what one gives by `rig_kernel`.
 #![tactic(auto)]
 
 mod edited;
+pub mod events;
 mod from_scratch;
 pub mod laws;
 mod order;
 mod reached;
 mod shown;
 mod tags;
-#[cfg(test)]
-mod tests;
 
 pub use edited::retag;
 pub use from_scratch::scratch;
-pub use reached::flush;
+pub use reached::{flush, flush_into};
 pub use shown::shown_numbers;
 pub use tags::Tags;

@@ -18,7 +18,7 @@ use rig_scene::OpId;
 use std::alloc::{AllocError, Global};
 
 /// The plan of the operations that are tagged or need a tagged one, themselves or through others, along links that aren't cut.
-/// It takes time by what is reached, and not by the number of operations but for an array of that length.
+/// It takes time by what is reached, and not by the number of operations but for an array of that length ([`flush_into`] takes that).
 ///
 /// # Errors
 ///
@@ -32,24 +32,47 @@ pub fn flush(
     requires { AreTables nodes.now links.now }
     ensures plan { IfOk result (λ plan. plan ≡ plan_of links.now.ins (reached_numbers nodes.now links.now tags.now)) }
 {
-    let mut set = tagged(alloc, nodes, tags)?;
-    add_readers(&mut set, links);
-    let order = in_order(alloc, &set, links)?;
-    set.clear();
-    add_all(&mut set, &order);
-    planned(alloc, links, &order, &set)
+    let mut reached = NodeSet::new(alloc, nodes.len())?;
+    flush_into(alloc, nodes, links, tags, &mut reached)
 }
 
-// The numbers of the tags.
-fn tagged(alloc: Global, nodes: &NodeTable, tags: &Tags) -> Result<NodeSet, NoMemory>
-    ensures count { IfOk result (λ set. set.count ≡ length nodes.now) }
-    ensures members { IfOk result (λ set. set.members ≡ with_nodes [] (numbers_of nodes.now tags.now)) }
+/// The same with a set of nodes that the caller keeps, so that the time is that of what is reached alone. Afterwards the members of
+/// `reached` are the operations of the plan, in its order.
+///
+/// # Errors
+///
+/// [`NoMemory`] where memory is refused: `reached` has any members.
+pub fn flush_into(
+    alloc: Global,
+    nodes: &NodeTable,
+    links: &LinkTable,
+    tags: &Tags,
+    reached: &mut NodeSet,
+) -> Result<Plan, NoMemory>
+    requires tables { AreTables nodes.now links.now }
+    requires room { reached.old.count ≡ length nodes.now }
+    ensures plan { IfOk result (λ plan. plan ≡ plan_of links.now.ins (reached_numbers nodes.now links.now tags.now)) }
+    ensures count { reached.new.count ≡ reached.old.count }
+    ensures members { OnOk result (reached.new.members ≡ reached_numbers nodes.now links.now tags.now) }
 {
-    let mut set = NodeSet::new(alloc, nodes.len())?;
+    add_tagged(reached, nodes, tags);
+    add_readers(reached, links);
+    let order = in_order(alloc, reached, links)?;
+    reached.clear();
+    add_all(reached, &order);
+    planned(alloc, links, &order, reached)
+}
+
+// The numbers of the tags, in the place of what the set had.
+fn add_tagged(set: &mut NodeSet, nodes: &NodeTable, tags: &Tags)
+    requires { set.old.count ≡ length nodes.now }
+    ensures count { set.new.count ≡ set.old.count }
+    ensures members { set.new.members ≡ with_nodes [] (numbers_of nodes.now tags.now) }
+{
+    set.clear();
     for index in 0..tags.len() {
-        add_if_there(&mut set, nodes, tags.get(index));
+        add_if_there(set, nodes, tags.get(index));
     }
-    Ok(set)
 }
 
 fn add_if_there(set: &mut NodeSet, nodes: &NodeTable, op: &OpId)

@@ -1,5 +1,5 @@
 //! Sets of tagged operations.
-ghost use Rattle.std.specs.Prelude.{◌≡◌, ◌<◌, ◌++◌, [], ◌∷◌, length, slice_get, Some, OnOk, OnErr, if◌then◌else◌};
+ghost use Rattle.std.specs.Prelude.{◌≡◌, ◌<◌, ◌++◌, [], ◌∷◌, length, slice_get, take, Some, OnOk, OnErr, if◌then◌else◌};
 ghost use Rattle.rig_flush.specs.Retag.{is_one_of};
 
 use indexmap::IndexSet;
@@ -66,5 +66,18 @@ impl Tags {
         ensures { slice_get self.now index ≡ Some result.now }
     {
         &self.ops.as_slice()[index]
+    }
+    /// Takes the operations away that were added after the first so many.
+    pub fn truncate(&mut self, len: usize)
+        ensures { self.new ≡ take len self.old }
+    {
+        self.ops.truncate(len);
+    }
+
+    /// Takes all operations away.
+    pub fn clear(&mut self)
+        ensures { self.new ≡ [] }
+    {
+        self.ops.clear();
     }
 }

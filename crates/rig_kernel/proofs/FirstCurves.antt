@@ -36,14 +36,19 @@ module _ {A : Type 0} (p : A → Bool) where
       ∙ ap (λ len. within len (cond (eqb (position_or_len p xs) (length xs)) (length xs + cond (p x) 0 1) (position_or_len p xs))) (length-append xs (x ∷ []))
       ∙ at_end (position_or_len p xs) (length xs) (p x) (prefix_len-le-length _ xs)
 
-module _ {A B : Type 0} (p : B → Bool) (f : A → B) where
   -- one more of a list passes where none before it does
+  pub position-take_next : (xs : List A) (i : ℕ) (d : A) → i < length xs
+      → position p (take (i + 1) xs) ≡ found_or (position p (take i xs)) (p (get_or xs i d)) i
+  position-take_next xs i d l =
+      ap (λ n. position p (take n xs)) {x = i + 1} {y = suc i} (omega arith)
+      ∙ ap (position p) (take-suc xs i d l)
+      ∙ position_push (take i xs) (get_or xs i d)
+      ∙ ap (λ n. found_or (position p (take i xs)) (p (get_or xs i d)) n) (length-take-le i xs (omega arith))
+
+module _ {A B : Type 0} (p : B → Bool) (f : A → B) where
+  -- the same of a list that is mapped
   pub position-take_more : (xs : List A) (i : ℕ) (d : A) → i < length xs
       → position p (take (i + 1) (map f xs)) ≡ found_or (position p (take i (map f xs))) (p (f (get_or xs i d))) i
   position-take_more xs i d l =
-      let within : i < length (map f xs) = omega (arith, length-map xs f) in
-      ap (λ n. position p (take n (map f xs))) {x = i + 1} {y = suc i} (omega arith)
-      ∙ ap (position p) (take-suc (map f xs) i (f d) within)
-      ∙ position_push p (take i (map f xs)) (get_or (map f xs) i (f d))
-      ∙ ap (λ x. found_or (position p (take i (map f xs))) (p x) (length (take i (map f xs)))) (get_or-map f xs i d)
-      ∙ ap (λ n. found_or (position p (take i (map f xs))) (p (f (get_or xs i d))) n) (length-take-le i (map f xs) (omega arith))
+      position-take_next p (map f xs) i (f d) (omega (arith, length-map xs f))
+      ∙ ap (λ x. found_or (position p (take i (map f xs))) (p x) i) (get_or-map f xs i d)

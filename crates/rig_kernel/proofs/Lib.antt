@@ -19,6 +19,7 @@ mod SamePlace
 mod LinkOps
 mod Animated
 mod NumbersOf
+mod OriginalNumbers
 mod PosedBones
 mod ShownLayers
 mod Behind

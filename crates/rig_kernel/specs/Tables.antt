@@ -1,6 +1,7 @@
--- What evaluation looks up by table: the paths of each action's curves, the bones of each armature, and the operation of each
--- driver. No edit changes the first two.
+-- What evaluation looks up by table: the paths of each action's curves, the bones of each armature at rest and by name, and the
+-- operation of each driver. No edit changes any but the last.
 use Rattle.std.specs.Prelude.{◌≡◌, ℕ, List, map, position, slice_get, Option, option_map, option_and_then}
+use Rattle.std.specs.HashMap.{HashMap}
 use Rattle.indexmap.specs.IndexMap.{get}
 use Rattle.rig_kernel.specs.declared.action_curves.ActionCurves.{ActionCurves}
 use Rattle.rig_kernel.specs.declared.bones_at_rest.BoneAtRest.{BoneAtRest}
@@ -46,6 +47,10 @@ curve_at tables action path = option_and_then (λ curves. curve_in curves path) 
 abbrev pub rest_at : SceneTables → ℕ → ℕ → Option BoneAtRest
 rest_at tables armature bone = option_and_then (λ bones. slice_get bones bone) (slice_get tables.armatures armature)
 
+-- the index of the bone of a name in an armature
+abbrev pub bone_number_at : SceneTables → ℕ → List ℕ → Option ℕ
+bone_number_at tables armature name = option_and_then (λ names. get same_text names name) (slice_get tables.bone_names armature)
+
 -- ---- that they are right
 
 -- a bone's own rest, and its rest in the armature's space
@@ -61,10 +66,19 @@ AreCurvesOf curves paths = (path : Path) → curve_in curves path ≡ position (
 abbrev pub AreBonesOf : List BoneAtRest → List RestBone → Type 0
 AreBonesOf at_rest bones = (index : ℕ) → slice_get at_rest index ≡ bone_at_rest bones index
 
--- whether tables give what the parts say: the first curve of each path, each bone at rest, and the drivers in order
+-- the first bone of a name
+abbrev pub bone_named : List ℕ → List RestBone → Option ℕ
+bone_named name bones = position (λ b. same_text b.name name) bones
+
+-- whether the table of an armature gives the first bone of each name
+abbrev pub AreNamesOf : {S : Type 0} → HashMap (List ℕ) ℕ S → List RestBone → Type 0
+AreNamesOf names bones = (name : List ℕ) → get same_text names name ≡ bone_named name bones
+
+-- whether tables give what the parts say: the first curve of each path, each bone at rest and by name, and the drivers in order
 pub record AreTables (tables : SceneTables) (parts : TableParts) : Type 0 where
   pub curves : (action : ℕ) (path : Path)
       → curve_at tables action path ≡ option_and_then (position (λ p. same_path p path)) (slice_get parts.paths action)
   pub bones : (armature bone : ℕ)
       → rest_at tables armature bone ≡ option_and_then (λ bones. bone_at_rest bones bone) (slice_get parts.bones armature)
+  pub names : (armature : ℕ) (name : List ℕ) → bone_number_at tables armature name ≡ option_and_then (bone_named name) (slice_get parts.bones armature)
   pub drivers : tables.drivers ≡ parts.drivers

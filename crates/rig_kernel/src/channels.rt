@@ -56,9 +56,9 @@ pub(crate) fn own_curves<'a>(
     }
 }
 
-/// Eight numbers: each by its driver among so many inputs from an index on, else by its curve, else the original one.
+/// Eight numbers: each by its driver among so many inputs from an index on, else by its curve, else the base one.
 pub(crate) fn channels_from<I: Inputs>(
-    original: &Channels,
+    base: &Channels,
     curves: Option<&ChannelCurves>,
     numbers: &[Option<Fx>],
     inputs: &I,
@@ -68,90 +68,29 @@ pub(crate) fn channels_from<I: Inputs>(
     requires from { from ≤ 8 }
     requires drivers { drivers ≤ 8 }
     ensures { result ≡ channels_from (λ channel. option_and_then (λ c. channel_curve c channel) (option_copied curves.entry))
-        numbers.now drivers (drop from (I.list inputs.now)) original.now }
+        numbers.now drivers (drop from (I.list inputs.now)) base.now }
 {
+    if drivers == 0 && curves.is_none() {
+        return *base;
+    }
     Channels {
         loc: V3 {
-            x: channel_number(
-                original,
-                curves,
-                numbers,
-                inputs,
-                from,
-                drivers,
-                Channel::LocX,
-            ),
-            y: channel_number(
-                original,
-                curves,
-                numbers,
-                inputs,
-                from,
-                drivers,
-                Channel::LocY,
-            ),
-            z: channel_number(
-                original,
-                curves,
-                numbers,
-                inputs,
-                from,
-                drivers,
-                Channel::LocZ,
-            ),
+            x: channel_number(base, curves, numbers, inputs, from, drivers, Channel::LocX),
+            y: channel_number(base, curves, numbers, inputs, from, drivers, Channel::LocY),
+            z: channel_number(base, curves, numbers, inputs, from, drivers, Channel::LocZ),
         },
         rot: Raw {
-            w: channel_number(
-                original,
-                curves,
-                numbers,
-                inputs,
-                from,
-                drivers,
-                Channel::RotW,
-            ),
-            x: channel_number(
-                original,
-                curves,
-                numbers,
-                inputs,
-                from,
-                drivers,
-                Channel::RotX,
-            ),
-            y: channel_number(
-                original,
-                curves,
-                numbers,
-                inputs,
-                from,
-                drivers,
-                Channel::RotY,
-            ),
-            z: channel_number(
-                original,
-                curves,
-                numbers,
-                inputs,
-                from,
-                drivers,
-                Channel::RotZ,
-            ),
+            w: channel_number(base, curves, numbers, inputs, from, drivers, Channel::RotW),
+            x: channel_number(base, curves, numbers, inputs, from, drivers, Channel::RotX),
+            y: channel_number(base, curves, numbers, inputs, from, drivers, Channel::RotY),
+            z: channel_number(base, curves, numbers, inputs, from, drivers, Channel::RotZ),
         },
-        scale: channel_number(
-            original,
-            curves,
-            numbers,
-            inputs,
-            from,
-            drivers,
-            Channel::Scale,
-        ),
+        scale: channel_number(base, curves, numbers, inputs, from, drivers, Channel::Scale),
     }
 }
 
 fn channel_number<I: Inputs>(
-    original: &Channels,
+    base: &Channels,
     curves: Option<&ChannelCurves>,
     numbers: &[Option<Fx>],
     inputs: &I,
@@ -163,11 +102,11 @@ fn channel_number<I: Inputs>(
     requires drivers { drivers ≤ 8 }
     ensures { result ≡ number_by (driven_among drivers (drop from (I.list inputs.now)) (channel_place channel))
         (curve_number numbers.now (option_and_then (λ c. channel_curve c channel) (option_copied curves.entry)))
-        (channel_of original.now channel) }
+        (channel_of base.now channel) }
 {
     let driven = driven_among(inputs, from, drivers, channel_place(channel));
     let animated = channel_curve_number(curves, numbers, channel);
-    number_by(driven, animated, original.get(channel))
+    number_by(driven, animated, base.get(channel))
 }
 
 fn channel_curve_number(

@@ -1,5 +1,5 @@
 //! The number of a driven channel.
-ghost use Rattle.std.specs.Prelude.{◌≡◌, ◌≤◌, ◌<◌, ◌&&◌, Some, None, ℤ, pos, length, drop, map, position, slice_get, IsTrue, option_map, option_and_then, unwrap_or};
+ghost use Rattle.std.specs.Prelude.{◌≡◌, ◌≤◌, ◌<◌, ◌&&◌, Some, None, ℤ, pos, drop, map, slice_get, IsTrue, option_map, option_and_then, unwrap_or};
 ghost use Rattle.std.specs.List.{Contains, find, flat_map};
 ghost use Rattle.std.specs.Option.{option_copied};
 ghost use Rattle.rig_scene.specs.declared.id.AnimId.{AnimId};
@@ -33,8 +33,7 @@ use rig_drivers::combine;
 use rig_fixed::Fx;
 use rig_io::List;
 use rig_scene::{
-    AnimId, ArmatureData, Channels, Driver, Kind, Layer, Name, Object, OpId, Path, PencilData,
-    RestBone, Scene, Variable,
+    AnimId, Channels, Driver, Kind, Layer, Name, Object, OpId, Path, PencilData, Scene, Variable,
 };
 
 /// The number of the driver that an operation is.
@@ -163,12 +162,13 @@ fn of_object<I: Inputs>(
     inputs: &I,
     index: usize,
 ) -> Fx
+    requires tables { AreTables tables.now (table_parts scene.now) }
     ensures { result ≡ number_by None (curve_number (numbers_at (I.list inputs.now) index) (option_and_then (λ a. curve_at tables.now a path.now) object.now.action))
         (unwrap_or (object_number scene.now object.now path.now) (pos 0)) }
 {
     match animated(tables, object.action, path, inputs, index) {
         Some(number) => number,
-        None => object_number(scene, object, path).unwrap_or(Fx::ZERO),
+        None => object_number(scene, tables, object, path).unwrap_or(Fx::ZERO),
     }
 }
 
@@ -215,54 +215,44 @@ fn curve_of(tables: &SceneTables, action: u32, path: &Path) -> Option<u32>
     }
 }
 
-// The original number of a path of an object. A bone is found by its name: no table has the names of bones, and only what is
-// neither driven nor animated is looked up so.
-fn object_number(scene: &Scene, object: &Object, path: &Path) -> Option<Fx>
+// The original number of a path of an object.
+fn object_number(scene: &Scene, tables: &SceneTables, object: &Object, path: &Path) -> Option<Fx>
+    requires tables { AreTables tables.now (table_parts scene.now) }
     ensures { result ≡ object_number scene.now object.now path.now }
 {
     match path {
         Path::Own(channel) => Some(object.own.get(*channel)),
-        Path::Bone(name, channel) => Some(pose_named(scene, &object.kind, name)?.get(*channel)),
+        Path::Bone(name, channel) => {
+            Some(pose_named(scene, tables, &object.kind, name)?.get(*channel))
+        }
         Path::Layer(_, _) => None,
     }
 }
 
-fn pose_named<'a>(scene: &Scene, kind: &'a Kind, name: &Name) -> Option<&'a Channels>
+// The pose of the bone of a name.
+fn pose_named<'a>(
+    scene: &Scene,
+    tables: &SceneTables,
+    kind: &'a Kind,
+    name: &Name,
+) -> Option<&'a Channels>
+    requires tables { AreTables tables.now (table_parts scene.now) }
     ensures { option_copied result ≡ pose_named scene.now kind.now name.now }
 {
     match kind {
-        Kind::Armature { armature, pose } => match armature_at(scene, *armature) {
-            Some(armature) => pose_at(&armature.bones, pose, name),
-            None => None,
-        },
+        Kind::Armature { armature, pose } => pose_at(pose, tables.bone_number(*armature, name)),
         Kind::Empty | Kind::Pencil { .. } => None,
     }
 }
 
-fn armature_at(scene: &Scene, index: u32) -> Option<&ArmatureData>
-    ensures { option_copied result ≡ slice_get scene.now.armatures index }
+// The pose of the bone of an index.
+fn pose_at(pose: &List<Channels>, bone: Option<u32>) -> Option<&Channels>
+    ensures { option_copied result ≡ option_and_then (slice_get pose.now) bone }
 {
-    scene.armatures.as_slice().get(index as usize)
-}
-
-// The pose of the bone of a name.
-fn pose_at<'a>(
-    bones: &List<RestBone>,
-    pose: &'a List<Channels>,
-    name: &Name,
-) -> Option<&'a Channels>
-    ensures { option_copied result ≡ option_and_then (slice_get pose.now) (position (λ b. same_text b.name name.now) bones.now) }
-{
-    match bone_named(bones.as_slice(), name) {
-        Some(bone) => pose.as_slice().get(bone),
+    match bone {
+        Some(bone) => pose.as_slice().get(bone as usize),
         None => None,
     }
-}
-
-fn bone_named(bones: &[RestBone], name: &Name) -> Option<usize>
-    ensures { result ≡ position (λ b. same_text b.name name.now) bones.now }
-{
-    bones.iter().position(|bone| bone.name == *name)
 }
 
 // The original number of a path of a pencil.

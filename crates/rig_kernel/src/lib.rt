@@ -31,6 +31,7 @@
 
 mod action_curves;
 mod animation;
+mod bone_names;
 mod bones_at_rest;
 mod channel_curves;
 mod channels;

@@ -5,25 +5,31 @@ ghost use Rattle.std.specs.Option.{option_copied};
 ghost use Rattle.rig_scene.specs.declared.channel.Axis.{Axis};
 ghost use Rattle.rig_scene.specs.declared.channel.Channel.{Channel};
 ghost use Rattle.rig_scene.specs.declared.path.Path.TheVariants.{Own, Bone, Layer};
+ghost use Rattle.indexmap.specs.IndexMap.{get};
 ghost use Rattle.rig_scene.specs.Facts.{have_earlier_parents};
+ghost use Rattle.rig_scene.specs.Text.{same_text};
 ghost use Rattle.rig_kernel.specs.ChannelCurves.{channel_curve, axis_curve};
-ghost use Rattle.rig_kernel.specs.Tables.{TableParts, table_parts, curve_at, rest_at, AreCurvesOf, AreBonesOf, AreTables};
+ghost use Rattle.rig_kernel.specs.Tables.{TableParts, table_parts, curve_at, rest_at, bone_number_at};
+ghost use Rattle.rig_kernel.specs.Tables.{AreCurvesOf, AreBonesOf, AreNamesOf, AreTables};
 
 use crate::action_curves::{ActionCurves, action_curves};
+use crate::bone_names::bone_names;
 use crate::bones_at_rest::{BoneAtRest, bones_at_rest};
 use crate::channel_curves::{AxisCurves, ChannelCurves};
 use crate::driver_index::DriverIndex;
+use indexmap::IndexMap;
 use rig_fixed::Xform;
 use rig_io::{List, NoMemory};
 use rig_scene::{Action, ArmatureData, Channel, Name, OpId, Scene};
 use std::alloc::Global;
 
-/// What evaluation looks up by table: the curves of each action by what they animate, the bones of each armature at rest, and the
-/// drivers by their operations. Edits of drivers alone change any of it ([`update_drivers`](SceneTables::update_drivers)).
+/// What evaluation looks up by table: the curves of each action by what they animate, the bones of each armature at rest and by name,
+/// and the drivers by their operations. Edits of drivers alone change any of it ([`update_drivers`](SceneTables::update_drivers)).
 #[derive(Drop)]
 pub struct SceneTables {
     pub(crate) actions: List<ActionCurves>,
     pub(crate) armatures: List<List<BoneAtRest>>,
+    pub(crate) bone_names: List<IndexMap<Name, u32>>,
     pub(crate) drivers: DriverIndex,
 }
 
@@ -39,6 +45,7 @@ impl SceneTables {
         Ok(SceneTables {
             actions: curve_tables(alloc, scene.actions.as_slice())?,
             armatures: rest_tables(alloc, scene.armatures.as_slice())?,
+            bone_names: name_tables(alloc, scene.armatures.as_slice())?,
             drivers: DriverIndex::new(alloc, scene)?,
         })
     }
@@ -59,11 +66,7 @@ impl SceneTables {
         ensures { (channel : Channel) → option_and_then (λ c. channel_curve c channel) (option_copied result)
             ≡ curve_at self.now action (Bone bone.now channel) }
     {
-        self.actions
-            .as_slice()
-            .get(action as usize)?
-            .bones
-            .get(bone)
+        named(&self.actions.as_slice().get(action as usize)?.bones, bone)
     }
 
     /// The indices of an action's curves for the axes of the layer of a name. It takes one look-up by hash.
@@ -71,11 +74,7 @@ impl SceneTables {
         ensures { (axis : Axis) → option_and_then (λ c. axis_curve c axis) (option_copied result)
             ≡ curve_at self.now action (Layer layer.now axis) }
     {
-        self.actions
-            .as_slice()
-            .get(action as usize)?
-            .layers
-            .get(layer)
+        named(&self.actions.as_slice().get(action as usize)?.layers, layer)
     }
 
     /// The rest of a bone of an armature, relative to its parent bone.
@@ -98,6 +97,17 @@ impl SceneTables {
             .get(armature as usize)
             .get(bone as usize)
             .chain
+    }
+
+    /// The index of the bone of a name in an armature. It takes one look-up by hash.
+    pub fn bone_number(&self, armature: u32, name: &Name) -> Option<u32>
+        ensures { result ≡ bone_number_at self.now armature name.now }
+    {
+        self.bone_names
+            .as_slice()
+            .get(armature as usize)?
+            .get(name)
+            .copied()
     }
 
     /// The index of the driver of an operation in the scene's list.
@@ -123,6 +133,16 @@ impl SceneTables {
     }
 }
 
+// What a table has for a name. Of an empty one no hash is taken.
+fn named<'a, T>(table: &'a IndexMap<Name, T>, name: &Name) -> Option<&'a T>
+    ensures { option_copied result ≡ get same_text table.now name.now }
+{
+    if table.is_empty() {
+        return None;
+    }
+    table.get(name)
+}
+
 // The curves of each action, by index.
 fn curve_tables(alloc: Global, actions: &[Action]) -> Result<List<ActionCurves>, NoMemory>
     requires { All (λ a. length a.curves < 2 ^ 32) actions.now }
@@ -146,6 +166,21 @@ fn rest_tables(
     let mut tables = List::new(alloc);
     for armature in armatures {
         tables.push(bones_at_rest(alloc, armature.bones.as_slice())?)?;
+    }
+    Ok(tables)
+}
+
+// The bones of each armature by name, by index.
+fn name_tables(
+    alloc: Global,
+    armatures: &[ArmatureData],
+) -> Result<List<IndexMap<Name, u32>>, NoMemory>
+    requires { All (λ a. length a.bones < 2 ^ 32) armatures.now }
+    ensures { IfOk result (λ tables. AllZip (λ t a. AreNamesOf t a.bones) tables armatures.now) }
+{
+    let mut tables = List::new(alloc);
+    for armature in armatures {
+        tables.push(bone_names(alloc, armature.bones.as_slice())?)?;
     }
     Ok(tables)
 }

@@ -29,7 +29,7 @@
 //! - Only [`links`], [`LinkTable::cut_reads`] and [`cycle_report`] allocate. Their only error is want of memory.
 //!
 //! Nothing here evaluates an operation. Making the table takes time by the number of links, but for the cut: it takes one walk for each
-//! reference link, along what its source needs.
+//! reference link whose reader is needed by a kept link already, along what its source needs.
 #![tactic(auto)]
 
 mod builder;

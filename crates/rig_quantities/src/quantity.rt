@@ -26,10 +26,47 @@ pub fn quantities(alloc: Global, scene: &Scene) -> Result<List<Quantity>, NoMemo
     ensures { IfOk result (λ list. list ≡ quantities scene.now) }
 {
     let rows = driver_rows(alloc, scene)?;
-    let mut items = Vec::with_capacity(alloc, scene.drivers.len())?;
+    let mut items = Vec::with_capacity(alloc, quantity_count(scene))?;
     add_pencils(&mut items, scene, &rows)?;
     add_objects(&mut items, scene, &rows)?;
     Ok(List::from(items))
+}
+
+// ---- the number of quantities, so that the list takes its memory once
+
+fn quantity_count(scene: &Scene) -> usize {
+    scene
+        .drivers
+        .len()
+        .saturating_add(layer_count(scene.pencils.as_slice()))
+        .saturating_add(object_quantity_count(scene.objects.as_slice()))
+}
+
+fn layer_count(pencils: &[PencilData]) -> usize {
+    let mut count: usize = 0;
+    for pencil in pencils {
+        count = count.saturating_add(pencil.layers.len());
+    }
+    count
+}
+
+// Those of objects, without their driven channels.
+fn object_quantity_count(objects: &[Object]) -> usize {
+    let mut count: usize = 0;
+    for object in objects {
+        count = count
+            .saturating_add(2)
+            .saturating_add(kind_count(&object.kind));
+    }
+    count
+}
+
+fn kind_count(kind: &Kind) -> usize {
+    match kind {
+        Kind::Empty => 0,
+        Kind::Armature { pose, .. } => pose.len(),
+        Kind::Pencil { modifiers, .. } => modifiers.len().saturating_add(1),
+    }
 }
 
 // ---- pencils

@@ -1,10 +1,12 @@
--- A pencil of three drawings, and a short way to write the move of a point, for the worked examples.
-use Rattle.std.specs.Prelude.{ℕ, ℤ, pos, List, [], ◌∷◌, codes, false, None}
+-- A pencil of three drawings, a root without keys, and a short way to write the move of a point, for the worked examples.
+use Rattle.std.specs.Prelude.{ℕ, ℤ, pos, List, [], ◌∷◌, codes, false, Some, None}
 use Rattle.rig_fixed.specs.Example.{v3_of}
+use Rattle.rig_scene.specs.declared.channel.Channel.TheVariants.{LocX}
+use Rattle.rig_scene.specs.declared.path.Path.TheVariants as paths
 use Rattle.rig_scene.specs.declared.pencil.Drawing.{Drawing}
 use Rattle.rig_scene.specs.declared.pencil.Layer.{Layer}
 use Rattle.rig_scene.specs.declared.pencil.LayerKey.{LayerKey}
-use Rattle.rig_scene.specs.Examples.{layer_key, dot}
+use Rattle.rig_scene.specs.Examples.{layer_key, dot, scene_of, empty_object, channels_at, parent_of}
 use Rattle.rig_scene.specs.Scene.{SceneRecord}
 use Rattle.rig_edits.specs.declared.edit.Edit.{Edit}
 use Rattle.rig_edits.specs.declared.edit.Edit.TheVariants.{MovePoint}
@@ -39,3 +41,11 @@ three_drawings = record {
 -- the move of the dot of a drawing
 abbrev pub point_of : ℤ → Edit
 point_of drawing = MovePoint (codes "P") drawing (pos 0) (pos 0) (record { x = pos 1; y = pos 2; z = pos 3 })
+
+-- the root that moves and its child, where the root has no keys and the child stands elsewhere
+abbrev pub resting_root : ℤ → SceneRecord
+resting_root x = scene_of
+    (record { name = codes "Move"; curves = record { path = paths.Own LocX; keys = [] } ∷ [] } ∷ [])
+    (empty_object 0 (codes "Root") (channels_at (pos 0) (pos 0) (pos 0)) (Some 0) None
+    ∷ empty_object 1 (codes "Child") (channels_at x (pos 0) (pos 0)) None (parent_of 0) ∷ [])
+    []

@@ -1,5 +1,7 @@
--- what a reader has to believe: which operations an edit touches
+-- what a reader has to believe: which operations an edit touches, which edits keep all operations and in-links, and the shape of a scene
 pub mod Touch
+pub mod KeepsLinks
+pub mod Shape
 -- a scene of the worked examples
 pub mod Examples
 -- what the proofs need. Two scenes that have in common all that an operation's value is made of give it the same value
@@ -36,3 +38,6 @@ pub mod AgreeAdded
 pub mod AgreeRemoved
 -- the law
 pub mod TouchedAlone
+-- a scene has the operations and in-links of its shape, and an edit that keeps them leaves the shape
+pub mod ShapeLinks
+pub mod KeepsShape

@@ -1,5 +1,5 @@
-//! The operations that edits of small scenes touch, each list proved by computing it.
-#![tactic(auto, unfolding(crate::specs::Touch::touch))]
+//! The operations that edits of small scenes touch, and whether such edits keep all links, each proved by computing it.
+#![tactic(auto, unfolding(crate::specs::Touch::touch, crate::specs::KeepsLinks::keeps_links, crate::specs::Shape::shape))]
 
 ghost use Rattle.std.specs.Prelude.{◌≡◌, [], ◌∷◌, codes, pos, None, true, false};
 ghost use Rattle.rig_edits.specs.declared.edit.Edit.TheVariants as edit;
@@ -17,7 +17,9 @@ ghost use Rattle.rig_scene.specs.declared.operation.OpId.TheVariants as op;
 ghost use Rattle.rig_scene.specs.declared.path.Path.TheVariants.{Own, Layer};
 ghost use Rattle.rig_scene.specs.ExampleCharacter.{character, body, sketch, centre, hand_x, offset_x};
 ghost use Rattle.rig_scene.specs.Examples.{object, moving_root, parent_after_child, after_itself};
-ghost use Rattle.rig_touch.specs.Examples.{three_drawings, point_of};
+ghost use Rattle.rig_touch.specs.Examples.{three_drawings, resting_root, point_of};
+ghost use Rattle.rig_touch.specs.KeepsLinks.{keeps_links};
+ghost use Rattle.rig_touch.specs.Shape.{shape};
 ghost use Rattle.rig_touch.specs.Touch.{touch};
 
 /// A child's number is in its local transform. A name that no object has touches nothing.
@@ -92,4 +94,28 @@ pub fn a_removed_modifier_shifts_those_above()
 pub fn an_object_that_comes_or_goes_touches_nothing()
     ensures added { touch moving_root (edit.AddObject (codes "New") new.Empty) ≡ [] }
     ensures removed { touch moving_root (edit.RemoveObject (codes "Child")) ≡ [] }
+{}
+
+/// An edit of a number, a key, a switch or a point keeps all links, also where its name means nothing. A new parent and a removed modifier
+/// may change them.
+pub fn edits_of_values_keep_all_links()
+    ensures number { keeps_links moving_root (edit.SetValue (named.Object (codes "Nobody")) (Own LocY) (pos 3)) ≡ true }
+    ensures key { keeps_links character (edit.DeleteKey (codes "m") (Own LocX) (pos 1)) ≡ true }
+    ensures hidden { keeps_links character (edit.SetFlag (Hidden (codes "P") (codes "k")) true) ≡ true }
+    ensures point { keeps_links three_drawings (point_of (pos 0)) ≡ true }
+    ensures parent { keeps_links moving_root (edit.SetParent (codes "Child") None) ≡ false }
+    ensures modifier { keeps_links character (edit.RemoveModifier (codes "S") (codes "m")) ≡ false }
+{}
+
+/// A layer needs the time from its first key on, until its last one is deleted.
+pub fn a_layer_with_keys_needs_the_time()
+    ensures first { keeps_links character (edit.SetLayerKey (codes "P") (codes "b") (pos 4) (pos 0)) ≡ false }
+    ensures second { keeps_links character (edit.SetLayerKey (codes "P") (codes "k") (pos 4) (pos 0)) ≡ true }
+    ensures last { keeps_links character (edit.DeleteLayerKey (codes "P") (codes "k") (pos 1)) ≡ false }
+    ensures one_of_two { keeps_links three_drawings (edit.DeleteLayerKey (codes "P") (codes "a") (pos 1)) ≡ true }
+{}
+
+/// The keys of the root and the place of the child aren't in the shape of their scene.
+pub fn a_shape_has_no_keys_and_no_numbers()
+    ensures same { shape moving_root ≡ shape (resting_root (pos 7)) }
 {}

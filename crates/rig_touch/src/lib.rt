@@ -1,4 +1,4 @@
-//! Which operations an edit touches: those whose value it can change by itself.
+//! Which operations an edit touches: those whose value it can change by itself. And which edits keep all links.
 //!
 //! # Examples
 //!
@@ -34,9 +34,19 @@
 //! the driver's number is taken, and so does a set to the number that is there. An operation that the edit removes may be in it.
 //!
 //! Three things aren't in the list: operations that are new after the edit, those that have other in-links, and what follows
-//! along links from those that are touched. The caller compares the links, and flushes. Nothing here tests whether an edit is
-//! accepted, applies one, or evaluates. Names are searched for in their lists from the start. `SetValue` walks over all drivers as well,
-//! an edit of a key over all pencils and objects, and one of `hidden` over all objects.
+//! along links from those that are touched. The caller compares the links, and flushes.
+//!
+//! [`keeps_links`] says by the scene before an edit that it leaves all operations, in-links and cuts as they are
+//! ([`laws::an_edit_may_keep_all_links`]), so that nothing is compared. It leaves the shape of the scene, too
+//! ([`laws::an_edit_may_keep_the_shape`]): the paths of curves, bones at rest, drivers, and how many poses and modifiers there are.
+//!
+//! - `SetValue`, `SetKey`, `DeleteKey`, `SetFlag` and `MovePoint` keep all links.
+//! - `SetLayerKey` does where the layer has a key already, and `DeleteLayerKey` where it has two: only a layer with keys needs the time.
+//! - All other edits may change links.
+//!
+//! Nothing here tests whether an edit is accepted, applies one, or evaluates. Names are searched for in their lists from the start.
+//! `SetValue` walks over all drivers as well, an edit of a key over all pencils and objects, and one of `hidden` over all objects.
+//! [`keeps_links`] takes no memory, and looks up nothing but the layer whose keys are edited.
 #![tactic(auto)]
 
 mod animation;
@@ -44,8 +54,10 @@ mod channel;
 mod edit;
 pub mod examples;
 mod find;
+mod keeps;
 pub mod laws;
 mod object;
 mod pencil;
 
 pub use edit::touch;
+pub use keeps::keeps_links;

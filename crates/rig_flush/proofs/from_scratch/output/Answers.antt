@@ -6,8 +6,8 @@ use Rattle.rig_laws.specs.Output.{link_of}
 use Rattle.rig_scene.specs.Found.{Contains-slice_get, some_slice_get}
 use Rattle.rig_scene.specs.Operations.{operations}
 use Rattle.rig_flush.specs.Shown.{output_of}
-use Rattle.rig_flush.proofs.Inputs.{next_within, all_can_take, linked, output_is}
-use Rattle.rig_flush.proofs.Options.{ok_of_three}
+use Rattle.rig_flush.specs.Inputs.{next_within, all_can_take, linked, output_is}
+use Rattle.rig_flush.specs.Options.{ok_of_three}
 use Rattle.rig_flush.proofs.from_scratch.output.Goals as goal
 
 pub ins-requires : goal.ins-requires

@@ -6,7 +6,7 @@ use Rattle.rig_flush.specs.ByNumber.{IsNext}
 use Rattle.rig_flush.specs.Counted.{raised_by}
 use Rattle.rig_flush.specs.Shown.{output_of}
 use Rattle.rig_flush.proofs.Evaluated.{raised_once_more, one_more_kept, all_counted, is_next, all_kept}
-use Rattle.rig_flush.proofs.Inputs.{next_within}
+use Rattle.rig_flush.specs.Inputs.{next_within}
 use Rattle.rig_flush.proofs.from_scratch.outputs.Goals as goal
 
 pub output-requires-clause-next : goal.output-requires-clause-next

@@ -1,7 +1,7 @@
 use Rattle.std.proofs.Common.{sym, ◌∙◌, subst}
 use Rattle.std.specs.List.{All, Contains}
 use Rattle.rig_scene.specs.Operations.{operations}
-use Rattle.rig_flush.proofs.ShownOf.{all_shown}
+use Rattle.rig_flush.specs.ShownThere.{all_shown}
 use Rattle.rig_flush.proofs.shown.shown_numbers.Goals as goal
 
 pub numbers_of-requires : goal.numbers_of-requires

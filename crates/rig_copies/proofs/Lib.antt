@@ -1,0 +1,4 @@
+mod Kept
+mod Written
+mod Renumbered
+mod SmallScenes
