@@ -3,6 +3,7 @@ ghost use Rattle.std.specs.Prelude.{◌≡◌, length, IsTrue};
 ghost use Rattle.rig_flush.specs.Tables.{AreTables};
 ghost use Rattle.rig_scene.specs.WellFormed.{is_frame};
 
+use crate::scenes::{ROOT_AND_CHILD, scene_in};
 use rig_cut::{MAX_NODES, Plan};
 use rig_edits::Edit;
 use rig_flush::{Tags, flush, retag, scratch};
@@ -11,17 +12,9 @@ use rig_kernel::{Done, Out, Value};
 use rig_links::{LinkTable, links};
 use rig_nodes::{NodeTable, nodes};
 use rig_scene::{AnimId, Channel, Interp, Mode, Name, ObjectId, OpId, Path, Scene, Strokes};
-use rig_scenejson::{SceneStop, scene_of};
 use rig_touch::{keeps_links, touch};
-use serde_json::Value as Json;
 use std::alloc::Global;
 use std::test::Fail;
-
-/// Root moves along x by a curve from 0 at 1 to 10 at 11, and carries Child, which stands at 2.
-const ROOT_AND_CHILD: &str = r#"{"scene":{"version":1,
-    "actions":[{"name":"Move","curves":[{"channel":"loc.x","keys":[{"frame":1,"value":0},{"frame":11,"value":10000000}]}]}],
-    "objects":[{"name":"Root","kind":"empty","action":"Move"},
-        {"name":"Child","kind":"empty","parent":"Root","loc":[2000000,0,0]}]}}"#;
 
 /// A quarter turn about z carries a child that stands at x = 1.
 const TURNED_PARENT: &str = r#"{"scene":{"version":1,"objects":[
@@ -62,15 +55,6 @@ const MIRROR_ABOUT_AN_OBJECT: &str = r#"{"scene":{"version":1,
     "objects":[{"name":"Line","kind":"pencil","data":"Ink","loc":[1000000,0,0],
             "modifiers":[{"name":"M","kind":"mirror","x":true,"object":"Centre"}]},
         {"name":"Centre","kind":"empty","loc":[3000000,0,0]}]}}"#;
-
-fn scene_in(alloc: Global, text: &str) -> Result<Scene, Fail> {
-    let input = Json::from_str(alloc, text)?;
-    match scene_of(alloc, &input) {
-        Ok(scene) => Ok(scene),
-        Err(SceneStop::NoMemory) => Err(NoMemory.into()),
-        Err(SceneStop::Fault(fault)) => Err(Fail::new(fault.cause.code())),
-    }
-}
 
 /// The numbers that an output shows: of a transform the location, the rotation and the scale, of strokes the points.
 fn push_value(numbers: &mut Vec<i64>, value: &Value) -> Result<(), NoMemory> {

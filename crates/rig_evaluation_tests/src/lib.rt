@@ -5,3 +5,7 @@
 
 #[cfg(test)]
 mod flush;
+#[cfg(test)]
+mod graph;
+#[cfg(test)]
+mod scenes;
