@@ -1,5 +1,5 @@
-"""What `bench/numbers` and `bench/strokes` share: they build the proved code and the plain formulas, run both in turn,
-and compare what they print.
+"""What the scripts share that measure proved code in a program of its own: `bench/numbers` and `bench/strokes` run plain formulas in turn
+with it and compare what both print, and the others run it on scenes.
 
 The proved side is a program over the repository's crates, built as `rt run` builds any. Its sources stand beside this
 file with the ending .txt, since a .rt file may stand only in a crate. They are copied with the crates that they use into
@@ -94,6 +94,39 @@ def build_proved(name, libraries, top, kit=()):
     if ran.returncode != 0:
         fail(f"'rt run' ended with status {ran.returncode}: {said} has what it said")
     return folder / "crates" / program / "out" / program
+
+
+def build_kernel():
+    """Builds the program that `bench/kernel` and `bench/graph` share."""
+    libraries = ["rig_io", "rig_fixed", "rig_scene", "rig_nodes", "rig_links", "rig_laws", "rig_curves", "rig_pose", "rig_strokes"]
+    libraries += ["rig_modifiers", "rig_kernel", "rig_cut", "rig_edits", "rig_flush", "rig_scenejson", "rig_originals", "rig_workers"]
+    return build_proved("kernel", [*libraries, "rig_graph"], repository(), ["serde_json"])
+
+
+def parts_of(program, given, words):
+    """What a run of a program on an input prints: for each part, by its name, the least nanoseconds a time, and what the last line of
+    the part has last."""
+    with tempfile.TemporaryFile() as source:
+        source.write(given)
+        source.seek(0)
+        ran = subprocess.run([program, *words], stdin=source, stdout=subprocess.PIPE, text=True)
+    lines = [line.split() for line in ran.stdout.splitlines()]
+    if ran.returncode != 0 or not lines or any(len(line) != 4 for line in lines):
+        fail(f"a run ended with status {ran.returncode} and said {ran.stdout}")
+    best = {}
+    for name, nanos, times, told in lines:
+        best[name] = (min(int(nanos) / int(times), best.get(name, (float("inf"),))[0]), told)
+    return best
+
+
+def fastest_parts(program, inputs, words, runs):
+    """The same for each input, the fastest of some runs over all inputs in turn."""
+    best = [{} for _ in inputs]
+    for _ in range(runs):
+        for index, given in enumerate(inputs):
+            for name, (nanos, told) in parts_of(program, given, words).items():
+                best[index][name] = (min(nanos, best[index].get(name, (nanos,))[0]), told)
+    return best
 
 
 def build_plain(name, folder):
