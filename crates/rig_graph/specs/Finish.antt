@@ -73,10 +73,11 @@ module _ (mode : Mode) (version : ℕ) (c : SceneCopy) (tags : List OpId) (kept 
         )
 
     module _ (tags_after : List OpId) (kept_after : List (Option Output)) (count_after : ℕ) (published_after : Option Done)
-        (untagged : tags_after ≡ []) (kept_is : kept_after ≡ put_each kept ready.plan ready.results.items) (count_is : count_after ≡ count)
+        (untagged : tags_after ≡ []) (plan : List PlanNode) (plan_is : plan ≡ plan_of c.links.ins numbers)
+        (kept_is : kept_after ≡ put_each kept plan ready.results.items) (count_is : count_after ≡ count)
         (published_is : published_after ≡ frame_after published ready.next frame) where
       kept_by_plan : kept_after ≡ put_each kept (plan_of c.links.ins numbers) ready.results.items
-      kept_by_plan = kept_is ∙ ap (λ plan. put_each kept plan ready.results.items) is.plan
+      kept_by_plan = kept_is ∙ ap (λ plan. put_each kept plan ready.results.items) plan_is
 
       pub parts_after : AreParts mode c tags_after kept_after count_after published_after true
       parts_after =

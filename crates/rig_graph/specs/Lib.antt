@@ -6,6 +6,7 @@ pub mod Report
 pub mod Parts
 pub mod Given
 pub mod NextFrame
+pub mod LastPlan
 pub mod Ready
 pub mod Taking
 pub mod TagsAdded

@@ -4,7 +4,7 @@ use Rattle.std.specs.Option.{option_map_or}
 use Rattle.std.specs.Ordering.{int_eq}
 use Rattle.rig_flush.specs.Evaluation.{marks_of}
 use Rattle.rig_flush.specs.Retag.{is_one_of}
-use Rattle.rig_flush.specs.Tables.{reached_numbers, plan_of}
+use Rattle.rig_flush.specs.Tables.{reached_numbers}
 use Rattle.rig_graph.specs.declared.frame.NextFrame.{NextFrame}
 use Rattle.rig_graph.specs.declared.ready.Ready.{Ready}
 use Rattle.rig_graph.specs.declared.report.Report.{Report}
@@ -48,6 +48,5 @@ pub record IsTold (c : SceneCopy) (numbers : List ℕ) (report : Report) : Type 
 
 -- all that is tagged has run
 pub record IsReady (c : SceneCopy) (mode : Mode) (frame : ℤ) (tags : List OpId) (kept : List (Option Output)) (fits : Bool) (ready : Ready) : Type 0 where
-  pub plan : ready.plan ≡ plan_of c.links.ins (reached_numbers c.nodes c.links tags)
   pub run : HasRun c mode frame (reached_numbers c.nodes c.links tags) kept fits ready.results.items ready.next
   pub told : IsTold c (reached_numbers c.nodes c.links tags) ready.report

@@ -12,13 +12,13 @@ ghost use Rattle.rig_graph.specs.State.{state_of, published_of};
 ghost use Rattle.rig_graph.specs.Taken.{CanTakeOne, CanTake, taken_all, IsTakenInPart};
 
 use crate::frame::publish;
+use crate::last_plan::LastPlan;
 use crate::opening::{all_tags, no_copies};
 use crate::ready::{Ready, run_tagged};
 use crate::report::Report;
 use crate::scene_copy::{SceneCopy, scene_copy};
 use crate::taking::{Rebuilt, change_in_place, rebuild};
 use rig_copies::Copies;
-use rig_cut::NodeSet;
 use rig_flush::Tags;
 use rig_io::{List, NoMemory, Tally};
 use rig_kernel::Done;
@@ -38,8 +38,7 @@ pub struct Graph {
     copy: SceneCopy,
     tags: Tags,
     copies: Copies,
-    // What the last evaluation ran, kept for its memory.
-    reached: NodeSet,
+    last: LastPlan,
     published: Option<Done>,
     // Whether the published frame shows what is kept.
     fits: bool,
@@ -47,6 +46,7 @@ pub struct Graph {
 
 impl Model for Graph {
     ghost use Rattle.rig_flush.specs.Graph.{Fresh};
+    ghost use Rattle.rig_graph.specs.LastPlan.{IsLast};
     ghost use Rattle.rig_graph.specs.Parts.{record_of, AreParts};
     ghost use Rattle.rig_graph.specs.State.{GraphRecord, state_of};
 
@@ -54,8 +54,8 @@ impl Model for Graph {
 
     ghost view = { λ g. record_of g.mode g.version g.copy g.tags g.copies.kept g.published };
 
-    ghost invariant = { λ g. AreParts g.mode g.copy g.tags g.copies.kept g.reached.count g.published g.fits ×
-        Fresh (state_of (record_of g.mode g.version g.copy g.tags g.copies.kept g.published)) };
+    ghost invariant = { λ g. AreParts g.mode g.copy g.tags g.copies.kept g.last.reached.count g.published g.fits ×
+        Fresh (state_of (record_of g.mode g.version g.copy g.tags g.copies.kept g.published)) × IsLast g.copy.links g.last };
 }
 
 impl Graph {
@@ -70,14 +70,14 @@ impl Graph {
         let copy = scene_copy(alloc, scene)?;
         let tags = all_tags(alloc, &copy.nodes)?;
         let copies = no_copies(alloc, copy.nodes.len())?;
-        let reached = NodeSet::new(alloc, copy.nodes.len())?;
+        let last = LastPlan::new(alloc, copy.nodes.len())?;
         Ok(Graph {
             mode,
             version: 0,
             copy,
             tags,
             copies,
-            reached,
+            last,
             published: None,
             fits: false,
         })
@@ -164,11 +164,11 @@ impl Graph {
         let Rebuilt {
             copy,
             tags,
-            reached,
+            last,
         } = rebuild(alloc, &self.copy, &self.tags, &mut self.copies, &entry.edit)?;
         put_copy(&mut self.copy, copy);
         put_tags(&mut self.tags, tags);
-        put_reached(&mut self.reached, reached);
+        put_last(&mut self.last, last);
         self.fits = false;
         self.version = entry.turn + 1;
         Ok(())
@@ -204,7 +204,6 @@ impl Graph {
         let mode = self.mode;
         let fits = self.fits;
         let Ready {
-            plan,
             results,
             next,
             report,
@@ -216,12 +215,12 @@ impl Graph {
             self.published.as_ref(),
             fits,
             &mut self.tags,
-            &mut self.reached,
+            &mut self.last,
             &mut self.copies,
             watch,
             tally,
         )?;
-        self.copies.put_all(&plan, List::from(results));
+        self.copies.put_all(&self.last.plan, List::from(results));
         publish(&mut self.published, next, frame);
         self.fits = true;
         self.tags.clear();
@@ -241,8 +240,8 @@ fn put_tags(place: &mut Tags, tags: Tags)
     *place = tags;
 }
 
-fn put_reached(place: &mut NodeSet, reached: NodeSet)
-    ensures { place.new ≡ reached }
+fn put_last(place: &mut LastPlan, last: LastPlan)
+    ensures { place.new ≡ last }
 {
-    *place = reached;
+    *place = last;
 }

@@ -25,6 +25,7 @@
 mod at_links;
 mod frame;
 mod graph;
+mod last_plan;
 mod opening;
 mod ready;
 mod report;

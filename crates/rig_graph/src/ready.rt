@@ -2,19 +2,21 @@
 ghost use Rattle.std.specs.Prelude.{◌≡◌, ◌⊎◌, ◌≤◌, length, option_copied, IfOk, OnOk, OnErr, IsTrue, if◌then◌else◌};
 ghost use Rattle.rig_flush.specs.Counted.{raised_by};
 ghost use Rattle.rig_flush.specs.Evaluation.{marks_of};
-ghost use Rattle.rig_flush.specs.Tables.{reached_numbers, plan_of};
+ghost use Rattle.rig_flush.specs.Tables.{numbers_of};
 ghost use Rattle.rig_rows.specs.Rows.{joined};
 ghost use Rattle.rig_scene.specs.WellFormed.{is_frame};
+ghost use Rattle.rig_graph.specs.LastPlan.{IsPlanOf, IsLast};
 ghost use Rattle.rig_graph.specs.Parts.{IsCopy, IsPlanned};
 ghost use Rattle.rig_graph.specs.Ready.{tagged_for, is_frame_of, CanRun, HasRun, IsReady, IsTold};
 
 use crate::frame::{NextFrame, next_frame};
+use crate::last_plan::LastPlan;
 use crate::report::Report;
 use crate::run::run_reached;
 use crate::scene_copy::SceneCopy;
 use rig_copies::Copies;
-use rig_cut::{NodeSet, Plan};
-use rig_flush::{Tags, flush_into};
+use rig_cut::NodeSet;
+use rig_flush::Tags;
 use rig_io::{List, NoMemory, Tally};
 use rig_kernel::{Done, Out};
 use rig_pending::Mark;
@@ -25,7 +27,6 @@ use std::alloc::Global;
 /// What an evaluation has ready to be kept and published.
 #[derive(Drop)]
 pub(crate) struct Ready {
-    pub(crate) plan: Plan,
     pub(crate) results: Vec<Out>,
     pub(crate) next: NextFrame,
     pub(crate) report: Report,
@@ -45,30 +46,41 @@ pub(crate) fn run_tagged<W: Watch, Y: Tally>(
     published: Option<&Done>,
     fits: bool,
     tags: &mut Tags,
-    reached: &mut NodeSet,
+    last: &mut LastPlan,
     copies: &mut Copies,
     watch: &W,
     tally: &mut Y,
 ) -> Result<Ready, NoMemory>
     requires copy { IsCopy copy.now }
     requires frame { IsTrue (is_frame frame) }
-    requires count { reached.old.count ≡ length copy.now.nodes }
+    requires count { last.old.reached.count ≡ length copy.now.nodes }
+    requires last { IsLast copy.now.links last.old }
     requires can_run { CanRun copy.now mode frame (tagged_for (option_copied published) frame tags.old) copies.old.kept }
     ensures tags { OnOk result (tags.new ≡ tagged_for (option_copied published.entry) frame tags.old) }
     ensures kept { copies.new.kept ≡ copies.old.kept }
-    ensures room { IfOk result (λ r. length r.plan ≤ copies.new.spare) }
-    ensures count { reached.new.count ≡ reached.old.count }
+    ensures plan { OnOk result (IsPlanOf copy.now.links (numbers_of copy.now.nodes (tagged_for (option_copied published.entry) frame tags.old)) last.new) }
+    ensures last { IsLast copy.now.links last.new }
+    ensures count { last.new.reached.count ≡ last.old.reached.count }
+    ensures room { OnOk result (length last.new.plan ≤ copies.new.spare) }
     ensures ready { IfOk result (IsReady copy.now mode frame (tagged_for (option_copied published.entry) frame tags.old) copies.old.kept fits) }
     ensures tally { IfOk result (λ r. Y.count tally.new ≡ raised_by r.report.ran (Y.count tally.old)) }
     ensures err { OnErr result ((tags.new ≡ tags.old) ⊎ (tags.new ≡ tagged_for (option_copied published.entry) frame tags.old)) }
 {
     tag_time(tags, published, frame)?;
-    let plan = planned(alloc, copy, tags, reached, copies)?;
+    last.make(alloc, copy, tags)?;
+    copies.reserve(last.plan.len())?;
     let (results, next, report) = evaluated(
-        alloc, copy, mode, frame, fits, reached, copies, watch, tally,
+        alloc,
+        copy,
+        mode,
+        frame,
+        fits,
+        &last.reached,
+        copies,
+        watch,
+        tally,
     )?;
     Ok(Ready {
-        plan,
         results,
         next,
         report,
@@ -93,27 +105,6 @@ fn is_frame_of(published: Option<&Done>, frame: i32) -> bool
         Some(done) => done.frame == frame,
         None => false,
     }
-}
-
-// The plan of what is tagged and all that needs it, with room for the results.
-fn planned(
-    alloc: Global,
-    copy: &SceneCopy,
-    tags: &Tags,
-    reached: &mut NodeSet,
-    copies: &mut Copies,
-) -> Result<Plan, NoMemory>
-    requires copy { IsCopy copy.now }
-    requires count { reached.old.count ≡ length copy.now.nodes }
-    ensures plan { IfOk result (λ plan. plan ≡ plan_of copy.now.links.ins (reached_numbers copy.now.nodes copy.now.links tags.now)) }
-    ensures members { OnOk result (reached.new.members ≡ reached_numbers copy.now.nodes copy.now.links tags.now) }
-    ensures count { reached.new.count ≡ reached.old.count }
-    ensures kept { copies.new.kept ≡ copies.old.kept }
-    ensures room { IfOk result (λ plan. length plan ≤ copies.new.spare) }
-{
-    let plan = flush_into(alloc, &copy.nodes, &copy.links, tags, reached)?;
-    copies.reserve(plan.len())?;
-    Ok(plan)
 }
 
 // The results of what runs, the frame that they make, and what is told of it.

@@ -1,5 +1,5 @@
 //! An edit that a graph takes.
-ghost use Rattle.std.specs.Prelude.{◌≡◌, ◌<◌, take, length, None, IfOk, OnOk, OnErr, IsTrue};
+ghost use Rattle.std.specs.Prelude.{◌≡◌, ◌<◌, false, take, length, None, IfOk, OnOk, OnErr, IsTrue};
 ghost use Rattle.rig_copies.specs.Copies.{renumbered};
 ghost use Rattle.rig_edits.specs.Conditions.{first_cause};
 ghost use Rattle.rig_edits.specs.Edited.{edited};
@@ -11,9 +11,9 @@ ghost use Rattle.rig_flush.specs.Retag.{is_one_of, retagged};
 ghost use Rattle.rig_graph.specs.Parts.{IsCopy};
 ghost use Rattle.rig_graph.specs.Taking.{with_tag, with_tags};
 
+use crate::last_plan::LastPlan;
 use crate::scene_copy::{SceneCopy, scene_copy};
 use rig_copies::Copies;
-use rig_cut::NodeSet;
 use rig_edits::{Edit, apply};
 use rig_flush::{Tags, retag};
 use rig_io::{List, NoMemory};
@@ -116,7 +116,7 @@ fn is_there(nodes: &NodeTable, op: &OpId) -> bool
 pub(crate) struct Rebuilt {
     pub(crate) copy: SceneCopy,
     pub(crate) tags: Tags,
-    pub(crate) reached: NodeSet,
+    pub(crate) last: LastPlan,
 }
 
 /// The copy of a scene after an accepted edit with tables of its own, and what is tagged then. What is kept gets the numbers of the new
@@ -138,18 +138,19 @@ pub(crate) fn rebuild(
     ensures scene { IfOk result (λ r. r.copy.scene ≡ edited copy.now.scene edit.now) }
     ensures copy { IfOk result (λ r. IsCopy r.copy) }
     ensures tags { IfOk result (λ r. r.tags ≡ retagged copy.now.scene r.copy.scene tags.now (touch copy.now.scene edit.now)) }
-    ensures reached { IfOk result (λ r. r.reached.count ≡ length r.copy.nodes) }
+    ensures count { IfOk result (λ r. r.last.reached.count ≡ length r.copy.nodes) }
+    ensures unmade { IfOk result (λ r. r.last.is_made ≡ false) }
     ensures kept { IfOk result (λ r. copies.new.kept ≡ renumbered copy.now.nodes r.copy.nodes copies.old.kept) }
     ensures err { OnErr result (copies.new ≡ copies.old) }
 {
     let new = changed_copy(alloc, &copy.scene, edit)?;
     let tags = retagged(alloc, copy, &new, tags, edit)?;
-    let reached = NodeSet::new(alloc, new.nodes.len())?;
+    let last = LastPlan::new(alloc, new.nodes.len())?;
     copies.rebind(&copy.nodes, &new.nodes)?;
     Ok(Rebuilt {
         copy: new,
         tags,
-        reached,
+        last,
     })
 }
 
