@@ -80,7 +80,9 @@ fn runs(
 fn ran_in_order(trace: &Trace, numbers: &[u32]) -> bool {
     let mut marks = trace.as_slice().iter();
     for number in numbers {
-        if marks.next() != Some(&Mark::Start(*number)) || marks.next() != Some(&Mark::Finish(*number)) {
+        if marks.next() != Some(&Mark::Start(*number))
+            || marks.next() != Some(&Mark::Finish(*number))
+        {
             return false;
         }
     }

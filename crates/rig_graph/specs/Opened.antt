@@ -1,6 +1,6 @@
 -- A graph that opens: its parts, and the state that it is in.
 use Rattle.std.specs.Prelude.{Contains, option_map, option_and_then, replicate}
-use Rattle.std.specs.List.{All, position}
+use Rattle.std.specs.List.{position}
 use Rattle.std.proofs.Common.{◌≡◌, ℕ, zero, suc, Bool, true, false, cond, List, [], ◌∷◌, length, filter, get_or, Option, Some, None, refl, sym, ap, ◌∙◌, subst}
 use Rattle.std.proofs.lemmas.List.{length-replicate}
 use Rattle.std.proofs.Math.Path.{fun_ext}
@@ -20,7 +20,6 @@ use Rattle.rig_links.specs.Numbers.{same_operation}
 use Rattle.rig_scene.specs.declared.modifier.Mode.{Mode}
 use Rattle.rig_scene.specs.declared.operation.OpId.{OpId}
 use Rattle.rig_scene.specs.Operations.{operations}
-use Rattle.rig_scene.specs.Value.{Value}
 
 -- nothing is kept at any number
 nothing_kept : (count n : ℕ) → kept_at (replicate count None) n ≡ None

@@ -1,6 +1,6 @@
 -- What the parts of a graph have to do with one another.
-use Rattle.std.specs.Prelude.{◌≡◌, ℕ, ◌<◌, List, [], ◌∷◌, length, map, filter, slice_get, slice_set, nat_eq, Bool, true, false, if◌then◌else◌, Option, Some, None, option_map, option_and_then, IsSome, IfSome, IsTrue, Contains, ℤ}
-use Rattle.std.specs.List.{All, filter_map, position, range_with_len}
+use Rattle.std.specs.Prelude.{◌≡◌, ℕ, ◌<◌, List, [], ◌∷◌, length, map, filter, slice_get, slice_set, nat_eq, Bool, true, false, if◌then◌else◌, Option, Some, option_map, IfSome, IsTrue, Contains, ℤ}
+use Rattle.std.specs.List.{All, position, range_with_len}
 use Rattle.std.specs.Option.{option_map_or}
 use Rattle.rig_copies.specs.Copies.{kept_at}
 use Rattle.rig_flush.specs.Shown.{output_of, shown_operations}

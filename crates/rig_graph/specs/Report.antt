@@ -1,12 +1,11 @@
 -- What is told of an evaluation.
-use Rattle.std.specs.Prelude.{◌≡◌, ◌⊎◌, ℕ, List, [], ◌∷◌, length, sum_by, ℤ}
+use Rattle.std.specs.Prelude.{◌≡◌, ◌⊎◌, ℕ, List, length, ℤ}
 use Rattle.std.specs.List.{flat_map}
 use Rattle.rig_flush.specs.Evaluation.{Needs}
 use Rattle.rig_flush.specs.Graph.{GraphState, tagged_at, flushed_at}
 use Rattle.rig_graph.specs.declared.report.Report.{Report}
 use Rattle.rig_graph.specs.State.{GraphRecord, state_of}
 use Rattle.rig_pending.specs.Ordered.{IsOrdered}
-use Rattle.rig_scene.specs.declared.operation.OpId.{OpId}
 use Rattle.rig_scene.specs.Operations.{operations, ins}
 
 -- The report of an evaluation of a graph at a frame: how many operations ran, which are those that are reached from what is tagged, how

@@ -1,8 +1,8 @@
 -- An edit that may change links is taken with tables that are made anew: the parts of the graph after it, and the state that it is in.
-use Rattle.std.specs.Prelude.{◌||◌, slice_get, Contains, IsTrue, not, map, filter, if◌then◌else◌, option_map, option_and_then}
-use Rattle.std.specs.List.{All, position}
-use Rattle.std.proofs.Common.{◌≡◌, ◌⊎◌, inl, inr, ℕ, Bool, true, false, List, [], ◌∷◌, length, Option, Some, None, refl, sym, ap, ◌∙◌, subst}
-use Rattle.std.proofs.lemmas.Bool.{both_ways, false_from_ne_true}
+use Rattle.std.specs.Prelude.{◌||◌, slice_get, Contains, IsTrue, not, filter, if◌then◌else◌, option_map}
+use Rattle.std.specs.List.{position}
+use Rattle.std.proofs.Common.{◌≡◌, ℕ, Bool, true, false, List, length, Option, Some, None, refl, sym, ap, ◌∙◌, subst}
+use Rattle.std.proofs.lemmas.Bool.{both_ways}
 use Rattle.std.proofs.lemmas.Bool.Decides.{same_from_decides}
 use Rattle.std.proofs.lemmas.List.{length-map}
 use Rattle.std.proofs.lemmas.Option.{slice_get-map}
@@ -21,7 +21,7 @@ use Rattle.rig_flush.specs.Retag.{is_one_of, same_links, is_tagged_after, retagg
 use Rattle.rig_flush.specs.TakenFresh.{taken_scene_is_fresh}
 use Rattle.rig_flush.specs.TagsOfScene.{listed_if_one, of_scene, tag_of_scene}
 use Rattle.rig_graph.specs.declared.scene_copy.SceneCopy.{SceneCopy}
-use Rattle.rig_graph.specs.Parts.{IsCopy, AreParts, AreOutputs, IsOutputOf, record_of}
+use Rattle.rig_graph.specs.Parts.{IsCopy, AreParts, AreOutputs, record_of}
 use Rattle.rig_graph.specs.State.{value_for, tags_of, published_of, state_of}
 use Rattle.rig_kernel.specs.declared.done.Done.{Done}
 use Rattle.rig_laws.specs.Lists.{All-elements, filter_same, option_map-Some, option_and_then-Some}
@@ -32,7 +32,6 @@ use Rattle.rig_scene.specs.declared.operation.OpId.{OpId}
 use Rattle.rig_scene.specs.Operations.{operations, ins}
 use Rattle.rig_scene.specs.Pairs.{NoneTwice}
 use Rattle.rig_scene.specs.Scene.{SceneRecord}
-use Rattle.rig_scene.specs.Value.{Value}
 use Rattle.rig_scene.specs.WellFormed.{is_scene}
 use Rattle.rig_touch.specs.Touch.{touch}
 

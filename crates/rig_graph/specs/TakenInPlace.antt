@@ -1,6 +1,5 @@
 -- An edit that keeps all links is taken in place: the parts of the graph after it, and the state that it is in.
-use Rattle.std.specs.Prelude.{◌&&◌, ◌||◌, Contains, IsTrue, not, map, filter, if◌then◌else◌, option_map, option_and_then}
-use Rattle.std.specs.List.{All, position}
+use Rattle.std.specs.Prelude.{◌&&◌, ◌||◌, Contains, IsTrue, not, map, if◌then◌else◌, option_map, option_and_then}
 use Rattle.std.proofs.Common.{◌≡◌, ◌⊎◌, inl, inr, ℕ, Bool, true, false, List, [], ◌∷◌, ◌++◌, Option, Some, None, refl, sym, ap, ◌∙◌, subst, ⊎_elim}
 use Rattle.std.proofs.lemmas.Bool.{both_ways}
 use Rattle.std.proofs.lemmas.Bool.Decides.{same_from_decides}
@@ -23,13 +22,11 @@ use Rattle.rig_graph.specs.Taking.{with_tag, with_tags}
 use Rattle.rig_kernel.specs.declared.done.Done.{Done}
 use Rattle.rig_laws.specs.Lists.{All-elements, filter_same}
 use Rattle.rig_laws.specs.Output.{Output}
-use Rattle.rig_links.specs.Numbers.{same_operation}
 use Rattle.rig_links.specs.SameOperation.{same_operation-Decides}
 use Rattle.rig_scene.specs.declared.modifier.Mode.{Mode}
 use Rattle.rig_scene.specs.declared.operation.OpId.{OpId}
 use Rattle.rig_scene.specs.Operations.{InLink, operations, ins}
 use Rattle.rig_scene.specs.Scene.{SceneRecord}
-use Rattle.rig_scene.specs.Value.{Value}
 use Rattle.rig_scene.specs.WellFormed.{is_scene}
 use Rattle.rig_touch.specs.KeepsLinks.{keeps_links}
 use Rattle.rig_touch.specs.KeepsShape.{operations_kept, ins_kept, cuts_kept}

@@ -161,11 +161,13 @@ impl Graph {
         ensures ok { OnOk result (state_of self.new ≡ taken (state_of self.old) entry.now.edit entry.now.turn) }
         ensures err { OnErr result (state_of self.new ≡ state_of self.old) }
     {
-        let Rebuilt {
-            copy,
-            tags,
-            last,
-        } = rebuild(alloc, &self.copy, &self.tags, &mut self.copies, &entry.edit)?;
+        let Rebuilt { copy, tags, last } = rebuild(
+            alloc,
+            &self.copy,
+            &self.tags,
+            &mut self.copies,
+            &entry.edit,
+        )?;
         put_copy(&mut self.copy, copy);
         put_tags(&mut self.tags, tags);
         put_last(&mut self.last, last);

@@ -45,7 +45,12 @@ impl LastPlan {
     /// # Errors
     ///
     /// [`NoMemory`] where memory is refused: there may be no plan.
-    pub(crate) fn make(&mut self, alloc: Global, copy: &SceneCopy, tags: &Tags) -> Result<(), NoMemory>
+    pub(crate) fn make(
+        &mut self,
+        alloc: Global,
+        copy: &SceneCopy,
+        tags: &Tags,
+    ) -> Result<(), NoMemory>
         requires copy { IsCopy copy.now }
         requires count { self.old.reached.count ≡ length copy.now.nodes }
         requires last { IsLast copy.now.links self.old }

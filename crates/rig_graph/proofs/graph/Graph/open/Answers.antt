@@ -1,5 +1,5 @@
-use Rattle.std.specs.Prelude.{replicate, None, option_map}
-use Rattle.std.proofs.Common.{◌≡◌, false, length, sym, ap, ◌∙◌, subst}
+use Rattle.std.specs.Prelude.{replicate, None}
+use Rattle.std.proofs.Common.{false, length, sym, ap, ◌∙◌, subst}
 use Rattle.rig_flush.specs.Graph.{Fresh, opened}
 use Rattle.rig_graph.specs.LastPlan.{no_plan}
 use Rattle.rig_graph.specs.Opened.{opened_parts, opened_fresh, opened_state}
