@@ -9,84 +9,76 @@ ghost use Rattle.rig_scene.specs.WellFormed.{is_frame};
 
 use crate::scenes::{ROOT_AND_CHILD, Stop, scene_in};
 use rig_edits::{Edit, EditStop, IdName, MAX_NEXT, apply};
-use rig_flush::Tags;
 use rig_graph::Graph;
 use rig_io::{Count, NoMemory, Tally};
 use rig_kernel::{Done, Value};
 use rig_originals::Entry;
 use rig_pending::{Mark, Trace};
-use rig_scene::{Channel, Mode, Name, NameStop, ObjectId, OpId, Path, Scene};
+use rig_scene::{Channel, Mode, Name, ObjectId, OpId, Path, Scene};
 use rig_scenejson::SceneStop;
 use rig_workers::Quiet;
 use std::alloc::Global;
+use std::slice;
 use std::test::Fail;
 
 const U: i64 = 1_000_000;
 
-/// What a call gives, made again where memory was refused.
-macro_rules! again {
-    ($call:expr) => {
-        match $call {
-            Ok(given) => given,
-            Err(_) => $call?,
-        }
-    };
-}
-
 fn opened(alloc: Global) -> Result<Graph, Stop> {
-    let scene = scene_in(alloc, ROOT_AND_CHILD)?;
-    Graph::open(alloc, scene, Mode::Viewport).map_err(|_| Stop::Scene(SceneStop::NoMemory))
-}
-
-/// What an evaluation ran, how many in-links the scene has, and what was told of it.
-#[derive(Drop)]
-struct Ran {
-    count: u32,
-    links: u32,
-    trace: Trace,
-}
-
-/// Evaluates a frame of a scene of six operations; `None` where another number of operations is told than was counted.
-fn evaluated(alloc: Global, graph: &mut Graph, frame: i32) -> Result<Option<Ran>, NoMemory>
-    requires { IsTrue (is_frame frame) }
-{
-    let mut tallies = [Count::new()];
-    let report = graph.evaluate(alloc, frame, &Quiet, &mut tallies)?;
-    if report.operations != 6 || tallies[0].count() != u64::from(report.ran) {
-        return Ok(None);
+    match opened_once(alloc) {
+        Ok(graph) => Ok(graph),
+        Err(_) => opened_once(alloc),
     }
-    Ok(Some(Ran {
-        count: report.ran,
-        links: report.links,
-        trace: report.trace,
-    }))
 }
 
-/// Whether a frame runs so many operations of a scene with so many in-links.
+fn opened_once(alloc: Global) -> Result<Graph, Stop> {
+    let scene = scene_in(alloc, ROOT_AND_CHILD)?;
+    match Graph::open(alloc, scene, Mode::Viewport) {
+        Ok(graph) => Ok(graph),
+        Err(NoMemory) => Err(Stop::Scene(SceneStop::NoMemory)),
+    }
+}
+
+/// Evaluates a frame. Whether these operations of the six of the scene ran and were counted, by their numbers, and the scene has so
+/// many in-links.
 fn runs(
     alloc: Global,
     graph: &mut Graph,
     frame: i32,
-    count: u32,
+    numbers: &[u32],
     links: u32,
 ) -> Result<bool, NoMemory>
     requires { IsTrue (is_frame frame) }
 {
-    let ran = evaluated(alloc, graph, frame)?;
-    Ok(ran.is_some_and(|ran| ran.count == count && ran.links == links))
+    match runs_once(alloc, graph, frame, numbers, links) {
+        Ok(is_so) => Ok(is_so),
+        Err(NoMemory) => runs_once(alloc, graph, frame, numbers, links),
+    }
 }
 
-/// Whether these operations ran, by their numbers, one after the other.
-fn ran_in_order(trace: &Trace, numbers: &[u32]) -> bool {
-    let mut marks = trace.as_slice().iter();
-    for number in numbers {
-        if marks.next() != Some(&Mark::Start(*number))
-            || marks.next() != Some(&Mark::Finish(*number))
-        {
-            return false;
-        }
-    }
-    marks.next().is_none()
+fn runs_once(
+    alloc: Global,
+    graph: &mut Graph,
+    frame: i32,
+    numbers: &[u32],
+    links: u32,
+) -> Result<bool, NoMemory>
+    requires { IsTrue (is_frame frame) }
+{
+    let mut tallies = [Count::new()];
+    let report = graph.evaluate(alloc, frame, &Quiet, &mut tallies)?;
+    let is_told = report.operations == 6
+        && report.links == links
+        && report.ran as usize == numbers.len();
+    let is_counted = tallies[0].count() == u64::from(report.ran);
+    Ok(is_told && is_counted && ran(&report.trace, numbers))
+}
+
+/// Whether these operations ran, by their numbers, each once and no other, in any order.
+fn ran(trace: &Trace, numbers: &[u32]) -> bool {
+    let marks = trace.as_slice();
+    marks.len() / 2 == numbers.len()
+        && numbers.iter().all(|n| marks.contains(&Mark::Start(*n))
+            && marks.contains(&Mark::Finish(*n)))
 }
 
 /// Whether a published frame shows Root and Child at these locations, with the rest of a transform at identity.
@@ -132,104 +124,150 @@ fn is_accepted(alloc: Global, scene: &Scene, edit: &Edit) -> Result<bool, NoMemo
 
 /// Takes an edit with a turn, and tells whether it was accepted.
 fn takes(alloc: Global, graph: &mut Graph, turn: u32, edit: &Edit) -> Result<bool, NoMemory> {
-    if !is_accepted(alloc, graph.scene(), edit)? || turn < graph.version() || turn == u32::MAX {
+    match takes_once(alloc, graph, turn, edit) {
+        Ok(is_accepted) => Ok(is_accepted),
+        Err(NoMemory) => takes_once(alloc, graph, turn, edit),
+    }
+}
+
+fn takes_once(alloc: Global, graph: &mut Graph, turn: u32, edit: &Edit) -> Result<bool, NoMemory> {
+    if turn < graph.version() || turn == u32::MAX || !is_accepted(alloc, graph.scene(), edit)? {
         return Ok(false);
     }
     let entry = Entry {
         turn,
         edit: edit.copy()?,
     };
-    graph.take(alloc, &[entry])?;
+    graph.take(alloc, slice::from_ref(&entry))?;
     Ok(true)
 }
 
-fn y_of_child(alloc: Global, value: i64) -> Result<Edit, NameStop> {
-    Ok(Edit::SetValue {
-        id: IdName::Object(Name::of(alloc, b"Child")?),
-        path: Path::Own(Channel::LocY),
-        value,
-    })
+fn name(alloc: Global, text: &[u8]) -> Result<Name, NoMemory> {
+    match Name::of(alloc, text) {
+        Ok(name) => Ok(name),
+        Err(_) => name_again(alloc, text),
+    }
 }
 
-fn removal(alloc: Global, object: &[u8]) -> Result<Edit, NameStop> {
-    Ok(Edit::RemoveObject {
-        object: Name::of(alloc, object)?,
-    })
+fn name_again(alloc: Global, text: &[u8]) -> Result<Name, NoMemory> {
+    match Name::of(alloc, text) {
+        Ok(name) => Ok(name),
+        Err(_) => Err(NoMemory),
+    }
 }
 
-fn child_alone(alloc: Global) -> Result<Edit, NameStop> {
-    Ok(Edit::SetParent {
-        object: Name::of(alloc, b"Child")?,
-        parent: None,
-    })
-}
+/// All operations.
+const ALL: [u32; 6] = [0, 1, 2, 3, 4, 5];
 
 /// Time, Animation, Local and World of Root and World of Child.
 const REACHED_BY_THE_TIME: [u32; 5] = [0, 1, 2, 3, 5];
 
+/// Root at 5 and Child at 7.
+fn shows_the_first_frame(graph: &Graph) -> bool {
+    shows(graph, 6, [5 * U, 0, 0], [7 * U, 0, 0])
+}
+
+fn runs_the_first_frame(alloc: Global, graph: &mut Graph) -> Result<bool, NoMemory> {
+    Ok(runs(alloc, graph, 6, &ALL, 5)? && shows_the_first_frame(graph))
+}
+
+fn runs_nothing(alloc: Global, graph: &mut Graph) -> Result<bool, NoMemory> {
+    Ok(runs(alloc, graph, 6, &[], 5)? && shows_the_first_frame(graph))
+}
+
+fn runs_the_next_frame(alloc: Global, graph: &mut Graph) -> Result<bool, NoMemory> {
+    let is_run = runs(alloc, graph, 7, &REACHED_BY_THE_TIME, 5)?;
+    Ok(is_run && shows(graph, 7, [6 * U, 0, 0], [8 * U, 0, 0]))
+}
+
 #[test]
 fn a_frame_runs_what_the_time_reaches(rt: HostRuntime) -> Result<(), Fail> {
-    let alloc = rt.alloc();
-    let mut graph = again!(opened(alloc));
+    let mut graph = opened(rt.alloc())?;
     assert!(rt; graph.published().is_none());
-    assert!(rt; again!(runs(alloc, &mut graph, 6, 6, 5)));
-    assert!(rt; shows(&graph, 6, [5 * U, 0, 0], [7 * U, 0, 0]));
-    assert!(rt; again!(runs(alloc, &mut graph, 6, 0, 5)));
-    assert!(rt; shows(&graph, 6, [5 * U, 0, 0], [7 * U, 0, 0]));
-    let ran = again!(evaluated(alloc, &mut graph, 7));
-    assert!(rt; ran.is_some_and(|ran| ran_in_order(&ran.trace, &REACHED_BY_THE_TIME)));
-    assert!(rt; shows(&graph, 7, [6 * U, 0, 0], [8 * U, 0, 0]));
+    assert!(rt; runs_the_first_frame(rt.alloc(), &mut graph)?);
+    assert!(rt; runs_nothing(rt.alloc(), &mut graph)?);
+    assert!(rt; runs_the_next_frame(rt.alloc(), &mut graph)?);
     Ok(())
 }
 
-fn is_the_only_tag(tags: &Tags, op: &OpId) -> bool {
-    tags.len() == 1 && tags.has(op)
+fn takes_y_of_child(alloc: Global, graph: &mut Graph) -> Result<bool, NoMemory> {
+    let edit = Edit::SetValue {
+        id: IdName::Object(name(alloc, b"Child")?),
+        path: Path::Own(Channel::LocY),
+        value: 3,
+    };
+    takes(alloc, graph, 1, &edit)
 }
 
-/// What is published stays until the next evaluation, which runs Local and World of Child.
+/// What is published stays until the next evaluation.
+fn has_the_local_transform_of_child_tagged(graph: &Graph) -> bool {
+    let tags = graph.tags();
+    graph.version() == 2
+        && tags.len() == 1
+        && tags.has(&OpId::Local(ObjectId(1)))
+        && shows_the_first_frame(graph)
+}
+
+/// Local and World of Child.
+fn runs_the_child(alloc: Global, graph: &mut Graph) -> Result<bool, NoMemory> {
+    let is_run = runs(alloc, graph, 6, &[4, 5], 5)?;
+    Ok(is_run && shows(graph, 6, [5 * U, 0, 0], [7 * U, 3, 0]))
+}
+
 #[test]
 fn an_edit_runs_what_it_reaches(rt: HostRuntime) -> Result<(), Fail> {
-    let alloc = rt.alloc();
-    let mut graph = again!(opened(alloc));
-    assert!(rt; again!(runs(alloc, &mut graph, 6, 6, 5)));
-    let edit = again!(y_of_child(alloc, 3));
-    assert!(rt; again!(takes(alloc, &mut graph, 1, &edit)));
-    assert_eq!(rt; graph.version(), 2);
-    assert!(rt; is_the_only_tag(graph.tags(), &OpId::Local(ObjectId(1))));
-    assert!(rt; shows(&graph, 6, [5 * U, 0, 0], [7 * U, 0, 0]));
-    let ran = again!(evaluated(alloc, &mut graph, 6));
-    assert!(rt; ran.is_some_and(|ran| ran_in_order(&ran.trace, &[4, 5])));
-    assert!(rt; shows(&graph, 6, [5 * U, 0, 0], [7 * U, 3, 0]));
+    let mut graph = opened(rt.alloc())?;
+    assert!(rt; runs_the_first_frame(rt.alloc(), &mut graph)?);
+    assert!(rt; takes_y_of_child(rt.alloc(), &mut graph)?);
+    assert!(rt; has_the_local_transform_of_child_tagged(&graph));
+    assert!(rt; runs_the_child(rt.alloc(), &mut graph)?);
     Ok(())
+}
+
+fn takes_removal(
+    alloc: Global,
+    graph: &mut Graph,
+    turn: u32,
+    object: &[u8],
+) -> Result<bool, NoMemory> {
+    let edit = Edit::RemoveObject {
+        object: name(alloc, object)?,
+    };
+    takes(alloc, graph, turn, &edit)
 }
 
 /// Root is the parent of Child, and Nobody isn't there.
 #[test]
 fn a_refused_edit_runs_nothing(rt: HostRuntime) -> Result<(), Fail> {
-    let alloc = rt.alloc();
-    let mut graph = again!(opened(alloc));
-    assert!(rt; again!(runs(alloc, &mut graph, 6, 6, 5)));
-    let root = again!(removal(alloc, b"Root"));
-    assert!(rt; !again!(takes(alloc, &mut graph, 1, &root)));
-    let nobody = again!(removal(alloc, b"Nobody"));
-    assert!(rt; !again!(takes(alloc, &mut graph, 2, &nobody)));
+    let mut graph = opened(rt.alloc())?;
+    assert!(rt; runs_the_first_frame(rt.alloc(), &mut graph)?);
+    assert!(rt; !takes_removal(rt.alloc(), &mut graph, 1, b"Root")?);
+    assert!(rt; !takes_removal(rt.alloc(), &mut graph, 2, b"Nobody")?);
     assert_eq!(rt; graph.version(), 0);
-    assert!(rt; again!(runs(alloc, &mut graph, 6, 0, 5)));
-    assert!(rt; shows(&graph, 6, [5 * U, 0, 0], [7 * U, 0, 0]));
+    assert!(rt; runs_nothing(rt.alloc(), &mut graph)?);
     Ok(())
 }
 
-/// Child has no parent any more: its World has an in-link less, and alone runs.
+fn takes_child_alone(alloc: Global, graph: &mut Graph) -> Result<bool, NoMemory> {
+    let edit = Edit::SetParent {
+        object: name(alloc, b"Child")?,
+        parent: None,
+    };
+    takes(alloc, graph, 1, &edit)
+}
+
+/// World of Child has an in-link less.
+fn runs_the_world_of_child(alloc: Global, graph: &mut Graph) -> Result<bool, NoMemory> {
+    let is_run = runs(alloc, graph, 6, &[5], 4)?;
+    Ok(is_run && shows(graph, 6, [5 * U, 0, 0], [2 * U, 0, 0]))
+}
+
 #[test]
 fn an_edit_of_links_keeps_outputs_by_operation(rt: HostRuntime) -> Result<(), Fail> {
-    let alloc = rt.alloc();
-    let mut graph = again!(opened(alloc));
-    assert!(rt; again!(runs(alloc, &mut graph, 6, 6, 5)));
-    let edit = again!(child_alone(alloc));
-    assert!(rt; again!(takes(alloc, &mut graph, 1, &edit)));
-    let ran = again!(evaluated(alloc, &mut graph, 6));
-    assert!(rt; ran.is_some_and(|ran| ran.links == 4 && ran_in_order(&ran.trace, &[5])));
-    assert!(rt; shows(&graph, 6, [5 * U, 0, 0], [2 * U, 0, 0]));
+    let mut graph = opened(rt.alloc())?;
+    assert!(rt; runs_the_first_frame(rt.alloc(), &mut graph)?);
+    assert!(rt; takes_child_alone(rt.alloc(), &mut graph)?);
+    assert!(rt; runs_the_world_of_child(rt.alloc(), &mut graph)?);
     Ok(())
 }
 
