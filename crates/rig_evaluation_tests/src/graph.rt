@@ -180,13 +180,19 @@ fn runs_the_next_frame(alloc: Global, graph: &mut Graph) -> Result<bool, NoMemor
     Ok(is_run && shows(graph, 7, [6 * U, 0, 0], [8 * U, 0, 0]))
 }
 
+fn runs_frames(alloc: Global, graph: &mut Graph) -> Result<bool, NoMemory> {
+    Ok(
+        graph.published().is_none()
+            && runs_the_first_frame(alloc, graph)?
+            && runs_nothing(alloc, graph)?
+            && runs_the_next_frame(alloc, graph)?,
+    )
+}
+
 #[test]
 fn a_frame_runs_what_the_time_reaches(rt: HostRuntime) -> Result<(), Fail> {
     let mut graph = opened(rt.alloc())?;
-    assert!(rt; graph.published().is_none());
-    assert!(rt; runs_the_first_frame(rt.alloc(), &mut graph)?);
-    assert!(rt; runs_nothing(rt.alloc(), &mut graph)?);
-    assert!(rt; runs_the_next_frame(rt.alloc(), &mut graph)?);
+    assert!(rt; runs_frames(rt.alloc(), &mut graph)?);
     Ok(())
 }
 
@@ -214,13 +220,19 @@ fn runs_the_child(alloc: Global, graph: &mut Graph) -> Result<bool, NoMemory> {
     Ok(is_run && shows(graph, 6, [5 * U, 0, 0], [7 * U, 3, 0]))
 }
 
+fn runs_an_edit(alloc: Global, graph: &mut Graph) -> Result<bool, NoMemory> {
+    Ok(
+        runs_the_first_frame(alloc, graph)?
+            && takes_y_of_child(alloc, graph)?
+            && has_the_local_transform_of_child_tagged(graph)
+            && runs_the_child(alloc, graph)?,
+    )
+}
+
 #[test]
 fn an_edit_runs_what_it_reaches(rt: HostRuntime) -> Result<(), Fail> {
     let mut graph = opened(rt.alloc())?;
-    assert!(rt; runs_the_first_frame(rt.alloc(), &mut graph)?);
-    assert!(rt; takes_y_of_child(rt.alloc(), &mut graph)?);
-    assert!(rt; has_the_local_transform_of_child_tagged(&graph));
-    assert!(rt; runs_the_child(rt.alloc(), &mut graph)?);
+    assert!(rt; runs_an_edit(rt.alloc(), &mut graph)?);
     Ok(())
 }
 
@@ -237,14 +249,20 @@ fn takes_removal(
 }
 
 /// Root is the parent of Child, and Nobody isn't there.
+fn runs_nothing_after_refusals(alloc: Global, graph: &mut Graph) -> Result<bool, NoMemory> {
+    Ok(
+        runs_the_first_frame(alloc, graph)?
+            && !takes_removal(alloc, graph, 1, b"Root")?
+            && !takes_removal(alloc, graph, 2, b"Nobody")?
+            && graph.version() == 0
+            && runs_nothing(alloc, graph)?,
+    )
+}
+
 #[test]
 fn a_refused_edit_runs_nothing(rt: HostRuntime) -> Result<(), Fail> {
     let mut graph = opened(rt.alloc())?;
-    assert!(rt; runs_the_first_frame(rt.alloc(), &mut graph)?);
-    assert!(rt; !takes_removal(rt.alloc(), &mut graph, 1, b"Root")?);
-    assert!(rt; !takes_removal(rt.alloc(), &mut graph, 2, b"Nobody")?);
-    assert_eq!(rt; graph.version(), 0);
-    assert!(rt; runs_nothing(rt.alloc(), &mut graph)?);
+    assert!(rt; runs_nothing_after_refusals(rt.alloc(), &mut graph)?);
     Ok(())
 }
 
@@ -262,12 +280,18 @@ fn runs_the_world_of_child(alloc: Global, graph: &mut Graph) -> Result<bool, NoM
     Ok(is_run && shows(graph, 6, [5 * U, 0, 0], [2 * U, 0, 0]))
 }
 
+fn runs_an_edit_of_links(alloc: Global, graph: &mut Graph) -> Result<bool, NoMemory> {
+    Ok(
+        runs_the_first_frame(alloc, graph)?
+            && takes_child_alone(alloc, graph)?
+            && runs_the_world_of_child(alloc, graph)?,
+    )
+}
+
 #[test]
 fn an_edit_of_links_keeps_outputs_by_operation(rt: HostRuntime) -> Result<(), Fail> {
     let mut graph = opened(rt.alloc())?;
-    assert!(rt; runs_the_first_frame(rt.alloc(), &mut graph)?);
-    assert!(rt; takes_child_alone(rt.alloc(), &mut graph)?);
-    assert!(rt; runs_the_world_of_child(rt.alloc(), &mut graph)?);
+    assert!(rt; runs_an_edit_of_links(rt.alloc(), &mut graph)?);
     Ok(())
 }
 
