@@ -225,8 +225,17 @@ impl Graph {
         self.copies.put_all(&self.last.plan, List::from(results));
         publish(&mut self.published, next, frame);
         self.fits = true;
-        self.tags.clear();
+        clear_tags(&mut self.tags);
         Ok(report)
+    }
+}
+
+// Takes all tags away. Their table keeps its size, so it isn't gone through where nothing is tagged.
+fn clear_tags(tags: &mut Tags)
+    ensures { tags.new ≡ [] }
+{
+    if tags.len() > 0 {
+        tags.clear();
     }
 }
 

@@ -83,8 +83,8 @@ invariant_of-self-2 g c =
     subst (λ p. IsPlanOf inside.copy.links (numbers_of inside.copy.nodes (tagged_for p frame inside.tags)) c.run_tagged.new.last) published_is c.in_ok-results.ensures.plan in
     let kept_is : c.put_all.new.self.kept ≡ put_each inside.copies.kept c.run_tagged.new.last.plan c.in_ok-results.field-0.results.items =
     c.put_all.ensures.kept ∙ ap (λ outs. put_each c.run_tagged.new.copies.kept c.run_tagged.new.last.plan outs) c.from.ensures ∙ ap (λ kept. put_each kept c.run_tagged.new.last.plan c.in_ok-results.field-0.results.items) c.in_ok-results.ensures.kept in (
-      parts_after inside.mode inside.version inside.copy inside.tags inside.copies.kept inside.last.reached.count inside.published inside.fits c.self.invariant.0 frame c.self.invariant.1 c.in_ok-results.field-0 ready c.clear.new.self c.put_all.new.self.kept c.run_tagged.new.last.reached.count c.publish.new.published c.clear.ensures c.run_tagged.new.last.plan planned.plan kept_is c.in_ok-results.ensures.count c.publish.ensures,
-      fresh_now inside.mode inside.version inside.copy inside.tags inside.copies.kept inside.last.reached.count inside.published inside.fits c.self.invariant.0 frame c.self.invariant.1 c.in_ok-results.field-0 ready c.clear.new.self c.put_all.new.self.kept c.run_tagged.new.last.reached.count c.publish.new.published c.clear.ensures c.run_tagged.new.last.plan planned.plan kept_is c.in_ok-results.ensures.count c.publish.ensures,
+      parts_after inside.mode inside.version inside.copy inside.tags inside.copies.kept inside.last.reached.count inside.published inside.fits c.self.invariant.0 frame c.self.invariant.1 c.in_ok-results.field-0 ready c.clear_tags.new.tags c.put_all.new.self.kept c.run_tagged.new.last.reached.count c.publish.new.published c.clear_tags.ensures c.run_tagged.new.last.plan planned.plan kept_is c.in_ok-results.ensures.count c.publish.ensures,
+      fresh_now inside.mode inside.version inside.copy inside.tags inside.copies.kept inside.last.reached.count inside.published inside.fits c.self.invariant.0 frame c.self.invariant.1 c.in_ok-results.field-0 ready c.clear_tags.new.tags c.put_all.new.self.kept c.run_tagged.new.last.reached.count c.publish.new.published c.clear_tags.ensures c.run_tagged.new.last.plan planned.plan kept_is c.in_ok-results.ensures.count c.publish.ensures,
       c.in_ok-results.ensures.last,
     )
 
@@ -99,9 +99,9 @@ returns-clause-course g c =
     subst (λ p. IsPlanOf inside.copy.links (numbers_of inside.copy.nodes (tagged_for p frame inside.tags)) c.run_tagged.new.last) published_is c.in_ok-results.ensures.plan in
     let kept_is : c.put_all.new.self.kept ≡ put_each inside.copies.kept c.run_tagged.new.last.plan c.in_ok-results.field-0.results.items =
     c.put_all.ensures.kept ∙ ap (λ outs. put_each c.run_tagged.new.copies.kept c.run_tagged.new.last.plan outs) c.from.ensures ∙ ap (λ kept. put_each kept c.run_tagged.new.last.plan c.in_ok-results.field-0.results.items) c.in_ok-results.ensures.kept in
-    subst (λ r. IsEvaluation (state_of r) c.args.frame c.in_ok-results.field-0.report.trace (state_of (record_of inside.mode inside.version inside.copy c.clear.new.self c.put_all.new.self.kept c.publish.new.published))) c.self.view_is
-    (subst (λ f. IsEvaluation (state_of (record_of inside.mode inside.version inside.copy inside.tags inside.copies.kept inside.published)) f c.in_ok-results.field-0.report.trace (state_of (record_of inside.mode inside.version inside.copy c.clear.new.self c.put_all.new.self.kept c.publish.new.published))) (to_z-of_z w32 c.args.frame c.ranges.frame)
-    (course_after inside.mode inside.version inside.copy inside.tags inside.copies.kept inside.last.reached.count inside.published inside.fits c.self.invariant.0 frame c.self.invariant.1 c.in_ok-results.field-0 ready c.clear.new.self c.put_all.new.self.kept c.run_tagged.new.last.reached.count c.publish.new.published c.clear.ensures c.run_tagged.new.last.plan planned.plan kept_is c.in_ok-results.ensures.count c.publish.ensures))
+    subst (λ r. IsEvaluation (state_of r) c.args.frame c.in_ok-results.field-0.report.trace (state_of (record_of inside.mode inside.version inside.copy c.clear_tags.new.tags c.put_all.new.self.kept c.publish.new.published))) c.self.view_is
+    (subst (λ f. IsEvaluation (state_of (record_of inside.mode inside.version inside.copy inside.tags inside.copies.kept inside.published)) f c.in_ok-results.field-0.report.trace (state_of (record_of inside.mode inside.version inside.copy c.clear_tags.new.tags c.put_all.new.self.kept c.publish.new.published))) (to_z-of_z w32 c.args.frame c.ranges.frame)
+    (course_after inside.mode inside.version inside.copy inside.tags inside.copies.kept inside.last.reached.count inside.published inside.fits c.self.invariant.0 frame c.self.invariant.1 c.in_ok-results.field-0 ready c.clear_tags.new.tags c.put_all.new.self.kept c.run_tagged.new.last.reached.count c.publish.new.published c.clear_tags.ensures c.run_tagged.new.last.plan planned.plan kept_is c.in_ok-results.ensures.count c.publish.ensures))
 
 pub returns-clause-published : goal.returns-clause-published
 returns-clause-published g c =
@@ -114,7 +114,7 @@ returns-clause-published g c =
     subst (λ p. IsPlanOf inside.copy.links (numbers_of inside.copy.nodes (tagged_for p frame inside.tags)) c.run_tagged.new.last) published_is c.in_ok-results.ensures.plan in
     let kept_is : c.put_all.new.self.kept ≡ put_each inside.copies.kept c.run_tagged.new.last.plan c.in_ok-results.field-0.results.items =
     c.put_all.ensures.kept ∙ ap (λ outs. put_each c.run_tagged.new.copies.kept c.run_tagged.new.last.plan outs) c.from.ensures ∙ ap (λ kept. put_each kept c.run_tagged.new.last.plan c.in_ok-results.field-0.results.items) c.in_ok-results.ensures.kept in
-    ap (λ (s : GraphState). s.published) (state_after inside.mode inside.version inside.copy inside.tags inside.copies.kept inside.last.reached.count inside.published inside.fits c.self.invariant.0 frame c.self.invariant.1 c.in_ok-results.field-0 ready c.clear.new.self c.put_all.new.self.kept c.run_tagged.new.last.reached.count c.publish.new.published c.clear.ensures c.run_tagged.new.last.plan planned.plan kept_is c.in_ok-results.ensures.count c.publish.ensures)
+    ap (λ (s : GraphState). s.published) (state_after inside.mode inside.version inside.copy inside.tags inside.copies.kept inside.last.reached.count inside.published inside.fits c.self.invariant.0 frame c.self.invariant.1 c.in_ok-results.field-0 ready c.clear_tags.new.tags c.put_all.new.self.kept c.run_tagged.new.last.reached.count c.publish.new.published c.clear_tags.ensures c.run_tagged.new.last.plan planned.plan kept_is c.in_ok-results.ensures.count c.publish.ensures)
     ∙ ap (λ f. Some (frame_of inside.copy.scene inside.mode f)) (to_z-of_z w32 c.args.frame c.ranges.frame)
     ∙ ap (λ (r : GraphRecord). Some (frame_of r.copy r.mode c.args.frame)) c.self.view_is
 
@@ -129,7 +129,7 @@ returns-clause-tags g c =
     subst (λ p. IsPlanOf inside.copy.links (numbers_of inside.copy.nodes (tagged_for p frame inside.tags)) c.run_tagged.new.last) published_is c.in_ok-results.ensures.plan in
     let kept_is : c.put_all.new.self.kept ≡ put_each inside.copies.kept c.run_tagged.new.last.plan c.in_ok-results.field-0.results.items =
     c.put_all.ensures.kept ∙ ap (λ outs. put_each c.run_tagged.new.copies.kept c.run_tagged.new.last.plan outs) c.from.ensures ∙ ap (λ kept. put_each kept c.run_tagged.new.last.plan c.in_ok-results.field-0.results.items) c.in_ok-results.ensures.kept in
-    ap (λ (s : GraphState). s.tags) (state_after inside.mode inside.version inside.copy inside.tags inside.copies.kept inside.last.reached.count inside.published inside.fits c.self.invariant.0 frame c.self.invariant.1 c.in_ok-results.field-0 ready c.clear.new.self c.put_all.new.self.kept c.run_tagged.new.last.reached.count c.publish.new.published c.clear.ensures c.run_tagged.new.last.plan planned.plan kept_is c.in_ok-results.ensures.count c.publish.ensures)
+    ap (λ (s : GraphState). s.tags) (state_after inside.mode inside.version inside.copy inside.tags inside.copies.kept inside.last.reached.count inside.published inside.fits c.self.invariant.0 frame c.self.invariant.1 c.in_ok-results.field-0 ready c.clear_tags.new.tags c.put_all.new.self.kept c.run_tagged.new.last.reached.count c.publish.new.published c.clear_tags.ensures c.run_tagged.new.last.plan planned.plan kept_is c.in_ok-results.ensures.count c.publish.ensures)
 
 pub returns-clause-report : goal.returns-clause-report
 returns-clause-report g c =
