@@ -38,6 +38,13 @@ fn opened_once(alloc: Global) -> Result<Graph, Stop> {
     }
 }
 
+fn stopped(result: Result<bool, NoMemory>) -> Result<bool, Stop> {
+    match result {
+        Ok(is_so) => Ok(is_so),
+        Err(NoMemory) => Err(Stop::Scene(SceneStop::NoMemory)),
+    }
+}
+
 /// Evaluates a frame. Whether these operations of the six of the scene ran and were counted, by their numbers, and the scene has so
 /// many in-links.
 fn runs(
@@ -189,10 +196,14 @@ fn runs_frames(alloc: Global, graph: &mut Graph) -> Result<bool, NoMemory> {
     )
 }
 
+fn are_frames_run(alloc: Global) -> Result<bool, Stop> {
+    let mut graph = opened(alloc)?;
+    stopped(runs_frames(alloc, &mut graph))
+}
+
 #[test]
 fn a_frame_runs_what_the_time_reaches(rt: HostRuntime) -> Result<(), Fail> {
-    let mut graph = opened(rt.alloc())?;
-    assert!(rt; runs_frames(rt.alloc(), &mut graph)?);
+    assert!(rt; are_frames_run(rt.alloc())?);
     Ok(())
 }
 
@@ -229,10 +240,14 @@ fn runs_an_edit(alloc: Global, graph: &mut Graph) -> Result<bool, NoMemory> {
     )
 }
 
+fn is_an_edit_run(alloc: Global) -> Result<bool, Stop> {
+    let mut graph = opened(alloc)?;
+    stopped(runs_an_edit(alloc, &mut graph))
+}
+
 #[test]
 fn an_edit_runs_what_it_reaches(rt: HostRuntime) -> Result<(), Fail> {
-    let mut graph = opened(rt.alloc())?;
-    assert!(rt; runs_an_edit(rt.alloc(), &mut graph)?);
+    assert!(rt; is_an_edit_run(rt.alloc())?);
     Ok(())
 }
 
@@ -259,10 +274,14 @@ fn runs_nothing_after_refusals(alloc: Global, graph: &mut Graph) -> Result<bool,
     )
 }
 
+fn are_refusals_run(alloc: Global) -> Result<bool, Stop> {
+    let mut graph = opened(alloc)?;
+    stopped(runs_nothing_after_refusals(alloc, &mut graph))
+}
+
 #[test]
 fn a_refused_edit_runs_nothing(rt: HostRuntime) -> Result<(), Fail> {
-    let mut graph = opened(rt.alloc())?;
-    assert!(rt; runs_nothing_after_refusals(rt.alloc(), &mut graph)?);
+    assert!(rt; are_refusals_run(rt.alloc())?);
     Ok(())
 }
 
@@ -288,10 +307,14 @@ fn runs_an_edit_of_links(alloc: Global, graph: &mut Graph) -> Result<bool, NoMem
     )
 }
 
+fn is_an_edit_of_links_run(alloc: Global) -> Result<bool, Stop> {
+    let mut graph = opened(alloc)?;
+    stopped(runs_an_edit_of_links(alloc, &mut graph))
+}
+
 #[test]
 fn an_edit_of_links_keeps_outputs_by_operation(rt: HostRuntime) -> Result<(), Fail> {
-    let mut graph = opened(rt.alloc())?;
-    assert!(rt; runs_an_edit_of_links(rt.alloc(), &mut graph)?);
+    assert!(rt; is_an_edit_of_links_run(rt.alloc())?);
     Ok(())
 }
 
