@@ -38,8 +38,8 @@ fn opened_once(alloc: Global) -> Result<Graph, Stop> {
     }
 }
 
-fn stopped(result: Result<bool, NoMemory>) -> Result<bool, Stop> {
-    match result {
+fn stopped(answer: Result<bool, NoMemory>) -> Result<bool, Stop> {
+    match answer {
         Ok(is_so) => Ok(is_so),
         Err(NoMemory) => Err(Stop::Scene(SceneStop::NoMemory)),
     }
